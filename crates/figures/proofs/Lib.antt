@@ -1,1 +1,3 @@
+mod WorkedClearings
 mod WorkedCurves
+mod WorkedRankings

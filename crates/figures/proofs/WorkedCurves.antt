@@ -14,13 +14,13 @@ use Rattle.curve.specs.Rules.{Area-under}
 use Rattle.curve.specs.Weighing.{sign-number, compared}
 use Rattle.figures.specs.Curves.{worked-corners, Weighs, Worked-curves}
 
-above : Weighs 20400 21400 Above
+pub above : Weighs 20400 21400 Above
 above m some under =
     let e = under .along .1 .1 .0 .mean 20400 21400 (lit≤ tt) (lit≤ tt) (lit≤ tt) in
     let worth : area-between m 20400 21400 ≡ 3640000 * m .parts = omega arith in
     grind (arith, tells)
 
-level : Weighs 20500 21500 Level
+pub level : Weighs 20500 21500 Level
 level m some under =
     let e = under .along .1 .1 .0 .mean 20500 21500 (lit≤ tt) (lit≤ tt) (lit≤ tt) in
     let worth : area-between m 20500 21500 ≡ 3600000 * m .parts = omega arith in

@@ -1,3 +1,5 @@
+pub mod Clearings
 pub mod Counts
 pub mod Curves
+pub mod Rankings
 pub mod Worked

@@ -1,0 +1,10 @@
+pub mod BuyersBest
+pub mod ClearedRounds
+pub mod Costs
+pub mod LastFits
+pub mod Outcomes
+pub mod Premises
+pub mod RankedPlaces
+pub mod Signs
+pub mod StoppingPlaces
+pub mod Walk

@@ -1,0 +1,4 @@
+pub mod Compares
+pub mod Prices
+pub mod Ranks
+mod Room

@@ -1,0 +1,4 @@
+pub mod Laws
+pub mod Ahead
+pub mod Rankings
+pub mod Parts
