@@ -1,0 +1,12 @@
+pub mod Moves
+pub mod Trails
+pub mod Ledgers
+pub mod Rows
+pub mod Agreement
+pub mod RoundExits
+pub mod Soundness
+pub mod Strikes
+pub mod Moments
+pub mod Closings
+pub mod Settlements
+pub mod Promised

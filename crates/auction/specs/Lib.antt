@@ -1,0 +1,5 @@
+pub mod State
+pub mod Steps
+pub mod History
+pub mod Awards
+pub mod Promise
