@@ -1,10 +1,10 @@
 -- What holds between an auction and the ledger of its kept turns.
-use Prim.Native.Nat.{ℕ, _+_, _-_, _*_, _≤_, _<_}
-use lib.Dec.{eqb, leb}
+use Prim.Native.Nat.{ℕ, _+_, _-_, _≤_, _<_}
+use lib.Dec.{eqb}
 use lib.ListN.{length, getD, set}
-use mathlib.Core.Bool.{Bool, true, false, cond}
+use mathlib.Core.Bool.{Bool, true, false}
 use mathlib.Core.List.{List, [], _∷_, _++_}
-use mathlib.Core.Logic.{_⊎_, ⊎-elim}
+use mathlib.Core.Logic.{⊎-elim}
 use mathlib.Core.Path.{_≡_, refl, sym, ap, subst, _∙_}
 use native.Mathlib.Omega.{arith}
 use Rattle.std.specs.declared.option.Option.{Option}
@@ -20,13 +20,12 @@ use Rattle.auction.specs.declared.clocks.Stage.{Stage}
 use Rattle.auction.specs.declared.clocks.Stage.the-variants.{Enrolling, Open, Shut, Settled}
 use Rattle.auction.specs.State.{State, floor-of, in-of}
 use Rattle.auction.specs.Steps.{figures-of, opened}
-use Rattle.auction.specs.History.{enrols, opens, exits, serves, closes, application-of, floor-after, last-for, is-none, unit-said, said-unit}
+use Rattle.auction.specs.History.{enrols, opens, exits, serves, closes, application-of, floor-after, last-for, unit-said, said-unit}
 use Rattle.auction.proofs.Ledgers.{Ledger, no-ledger, noted, ledger, along}
 use Rattle.auction.proofs.Moves.{Move, refusing, enrolling, beginning, exiting, serving, backing, shutting, settling, going-on, after, heard, Enrols, Exits, Serves, Closes}
 use Rattle.auction.proofs.Rows.{kw, in-push, in-set, total-push, total-stood, new-unit-is, new-kw, new-in-kw, last-push, none-is}
 use Rattle.auction.proofs.Trails.{keeps, replayed, Replays}
 use Rattle.book.specs.declared.terms.Application.{Application}
-use Rattle.book.specs.declared.unit.Standing.{Standing}
 use Rattle.book.specs.declared.unit.Unit.{Unit as Row}
 use Rattle.book.specs.Books.{no-unit, new-unit, stood, out-at, for-years, in-kw, capacity-in, total-enrolled}
 use Rattle.curve.specs.Meaning.{Meaning, ceiling}
@@ -181,7 +180,7 @@ enrols-more start s l a h g =
       above-floor = g .above-floor;
       rounds = g .rounds;
       earlier-above = g .earlier-above;
-      round-most = g .round-most
+      round-most = g .round-most;
     }
 
 begins-more : (start s : State) (l : Ledger) (h : s .stage ≡ Enrolling) → Agrees start s l → Agrees start (after s (beginning h)) (noted l opens)
@@ -205,7 +204,7 @@ begins-more start s l h g =
       above-floor = g .above-floor;
       rounds = sym (append-nil (l .gone));
       earlier-above = all-none _ (l .gone) (none .0);
-      round-most = tt
+      round-most = tt;
     }
 
 exits-more : (start s : State) (l : Ledger) (i price : ℕ) (h : Exits s i price) → Agrees start s l → Agrees start (after s (exiting i price h)) (noted l (exits i price))
@@ -241,7 +240,7 @@ exits-more start s l i price h g =
       above-floor = all-push _ (l .gone) (i, price) (g .above-floor) (h .above);
       rounds = ap (λ (es : List (ℕ × ℕ)). es ++ (i, price) ∷ []) (g .rounds) ∙ append-assoc (l .earlier) (l .round) ((i, price) ∷ []);
       earlier-above = g .earlier-above;
-      round-most = all-push _ (l .round) (i, price) (g .round-most) (h .most)
+      round-most = all-push _ (l .round) (i, price) (g .round-most) (h .most);
     }
 
 serves-more : (start s : State) (l : Ledger) (i years : ℕ) (h : Serves s i years) → Agrees start s l → Agrees start (after s (serving i years h)) (noted l (serves i years))
@@ -274,7 +273,7 @@ serves-more start s l i years h g =
       above-floor = g .above-floor;
       rounds = g .rounds;
       earlier-above = g .earlier-above;
-      round-most = g .round-most
+      round-most = g .round-most;
     }
 
 -- the floor of a round that is closed, from its cap
@@ -307,7 +306,7 @@ shuts-more start s l h g =
       above-floor = g .above-floor;
       rounds = g .rounds;
       earlier-above = g .earlier-above;
-      round-most = g .round-most
+      round-most = g .round-most;
     }
 
 settles-more : (start s : State) (l : Ledger) (h : Closes s true) → Agrees start s l → Agrees start (after s (settling h)) (noted l (closes (figures-of s) true))
@@ -330,7 +329,7 @@ settles-more start s l h g =
       above-floor = g .above-floor;
       rounds = g .rounds;
       earlier-above = g .earlier-above;
-      round-most = g .round-most
+      round-most = g .round-most;
     }
 
 -- the old floor is the cap, and every exit so far was above it
@@ -355,7 +354,7 @@ goes-on-more start s l h g =
       above-floor = all-weaker (λ e. floor-of s < e .1) _ (λ e lt. omega arith) (l .gone) (g .above-floor);
       rounds = sym (append-nil (l .gone));
       earlier-above = g .above-floor;
-      round-most = tt
+      round-most = tt;
     }
 
 pub agrees-more : (start s : State) (l : Ledger) (move : Move s) → keeps (heard s move) ≡ true → Agrees start s l → Agrees start (after s move) (noted l (heard s move))
@@ -390,7 +389,7 @@ agrees-first number top spread threshold m ahead =
       above-floor = tt;
       rounds = refl;
       earlier-above = tt;
-      round-most = tt
+      round-most = tt;
     }
 
 pub agrees : (number top spread threshold : ℕ) (m : Meaning) (ahead : Leaving → Leaving → Bool) (kept : List Turn) → Replays (opened number top spread threshold m ahead) kept → Agrees (opened number top spread threshold m ahead) (replayed (opened number top spread threshold m ahead) kept) (ledger kept)

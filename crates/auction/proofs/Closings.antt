@@ -1,8 +1,9 @@
 -- Capacity in, and when an auction settles: what holds at each accepted Close.
-use Prim.Native.Nat.{ℕ, _+_, _-_, _*_, _≤_, _<_}
+use Prim.Native.Nat.{ℕ, _+_, _≤_}
 use lib.ListN.{length}
-use mathlib.Core.Bool.{Bool, true, false}
+use mathlib.Core.Bool.{Bool, true}
 use mathlib.Core.List.{List, [], _∷_, _++_}
+use mathlib.Core.Logic.{_⊎_, inl, inr, ⊎-elim}
 use mathlib.Core.Path.{_≡_, refl, sym, ap, subst, _∙_}
 use native.Mathlib.Omega.{arith}
 use Rattle.std.specs.shelf.Lists.{All, sumBy}
@@ -11,17 +12,17 @@ use Rattle.auction.specs.declared.calls.Call.{Call}
 use Rattle.auction.specs.declared.calls.Figures.{Figures}
 use Rattle.auction.specs.declared.calls.Turn.{Turn}
 use Rattle.auction.specs.declared.clocks.Stage.{Stage}
-use Rattle.auction.specs.declared.clocks.Stage.the-variants.{Enrolling, Open, Shut, Settled}
-use Rattle.auction.specs.History.{Saying, refused, closes, says, saying, turn, played, ended, struck, kept-latest-first, enrolments, all-exits, application-of, closings, enrolled-kw, exits-kw, floor-after}
-use Rattle.auction.specs.Promise.{Each-close, floor-behind, Capacity-in}
+use Rattle.auction.specs.declared.clocks.Stage.the-variants.{Open, Settled}
+use Rattle.auction.specs.History.{refused, closes, saying, turn, played, ended, struck, kept-latest-first, all-exits, application-of, closings, enrolled-kw, exits-kw, floor-after}
+use Rattle.auction.specs.Promise.{closing-floor, Capacity-in, Settled-in}
 use Rattle.auction.specs.State.{State, floor-of, in-of}
 use Rattle.auction.specs.Steps.{step, opened, figures-of}
 use Rattle.auction.proofs.Agreement.{Agrees, agrees, closes-floor}
 use Rattle.auction.proofs.Ledgers.{Ledger, ledger, gone-said}
-use Rattle.auction.proofs.Moments.{Moment, moment, Closing, closing-of, enrolments-kept, closings-kept}
+use Rattle.auction.proofs.Moments.{moment, Closing, closing-of, enrolments-kept, closings-kept}
 use Rattle.auction.proofs.Moves.{Move, refusing, enrolling, beginning, exiting, serving, backing, shutting, settling, going-on, after, heard, moved}
 use Rattle.auction.proofs.Soundness.{In-round, in-round}
-use Rattle.auction.proofs.Trails.{Follows, follows, replayed}
+use Rattle.auction.proofs.Trails.{follows}
 use Rattle.book.specs.declared.terms.Application.{Application}
 use Rattle.curve.proofs.DemandWords.{words}
 use Rattle.curve.specs.Meaning.{Meaning, Laws, ceiling}
@@ -57,7 +58,40 @@ settled-stays s (c ∷ calls) e =
     let i = settled-stays (step s c .0) calls (ap (λ (z : State). z .stage) (r .1) ∙ e) in
     ((r .0, i .0), i .1 ∙ r .1)
 
--- An accepted Close: `s` is the auction then, and `then` what it became
+-- only a Close settles an auction
+
+settling-move : (s : State) (move : Move s) → (s .stage ≡ Settled → ⊥) → (heard s move ≡ closes (figures-of s) true) ⊎ (after s move .stage ≡ Settled → ⊥)
+settling-move s refusing unsettled = inr unsettled
+settling-move s (enrolling a h) unsettled = inr unsettled
+settling-move s (beginning h) unsettled = inr (λ e. let z : _≡_ {A = ℕ} 0 1 = cc in omega arith)
+settling-move s (exiting i price h) unsettled = inr unsettled
+settling-move s (serving i years h) unsettled = inr unsettled
+settling-move s (backing h) unsettled = inr unsettled
+settling-move s (shutting h) unsettled = inr (λ e. let z : _≡_ {A = ℕ} 0 1 = cc in omega arith)
+settling-move s (settling h) unsettled = inl refl
+settling-move s (going-on h) unsettled = inr (λ e. let z : _≡_ {A = ℕ} 0 1 = cc in omega arith)
+
+settled-later : (t : Turn) (h : List Turn) → Settled-in h → Settled-in (t ∷ h)
+settled-later t h i =
+    record {
+      before = t ∷ i .before;
+      later = i .later;
+      at = i .at;
+      figures = i .figures;
+      split = ap (λ (l : List Turn). t ∷ l) (i .split);
+      settled = i .settled;
+    }
+
+pub settled-by-close : (s : State) (calls : List Call) → (s .stage ≡ Settled → ⊥) → ended s calls .stage ≡ Settled → Settled-in (played s calls)
+settled-by-close s [] unsettled e = absurd (unsettled e)
+settled-by-close s (c ∷ calls) unsettled e =
+    let m = moved s c in
+    ⊎-elim
+    (λ says-so. record { before = []; later = played (step s c .0) calls; at = turn c (step s c .1); figures = figures-of s; split = refl; settled = m .saying-is ∙ says-so })
+    (λ not-yet. settled-later (turn c (step s c .1)) (played (step s c .0) calls) (settled-by-close (step s c .0) calls (λ is. not-yet (sym (ap (λ (z : State). z .stage) (m .state-is)) ∙ is)) e))
+    (settling-move s (m .move) unsettled)
+
+-- an accepted Close: the auction as it was, what it became then, and the calls that followed
 pub record Close-of (start : State) (before later : List Turn) (f : Figures) (settled : Bool) (end : State) : Type 0 where
   pub was : State
   pub then : State
@@ -90,7 +124,7 @@ module _ (number top spread threshold : ℕ) (m : Meaning) (ahead : Leaving → 
         in-round = subst (λ (b : List Turn). In-round s (ledger (kept-latest-first b))) (sym (o .before-is)) r;
         closing = subst (λ (z : State). Closing s z f settled) (sym (mv .state-is)) (closing-of s (mv .move) f settled heard-is);
         later-is = o .later-is;
-        end-is = o .end-is
+        end-is = o .end-is;
       }
 
 -- at a Close
@@ -102,7 +136,7 @@ module _ (start : State) (before later : List Turn) (f : Figures) (settled : Boo
   pub in-then : f .«capacity_in» ≡ in-of (c .was)
   in-then = ap (λ (x : Figures). x .«capacity_in») (c .closing .figures-are)
 
-  pub floor-then : floor-of (c .was) ≡ floor-behind (start .top) (start .spread) before
+  pub floor-then : floor-of (c .was) ≡ closing-floor (start .top) (start .spread) before
   floor-then =
       closes-floor start (c .was) l f (c .agreed) (c .closing .stage-is)
       ∙ ap (floor-after (start .top) (start .spread)) (length-push (l .closed) f)
@@ -118,7 +152,7 @@ module _ (start : State) (before later : List Turn) (f : Figures) (settled : Boo
       let here = in-then in
       omega arith
 
-  demanded-then : f .demand ≡ start .curve .demand (floor-behind (start .top) (start .spread) before)
+  demanded-then : f .demand ≡ start .curve .demand (closing-floor (start .top) (start .spread) before)
   demanded-then =
       ap (λ (x : Figures). x .demand) (c .closing .figures-are)
       ∙ ap (λ (m : Meaning). m .demand (floor-of (c .was))) (c .agreed .curve-stays)
@@ -129,14 +163,14 @@ module _ (start : State) (before later : List Turn) (f : Figures) (settled : Boo
       subst (All (λ g. f .«capacity_in» ≤ g .«capacity_in»)) (sym (closings-kept before))
       (subst (λ (n : ℕ). All (λ g. n ≤ g .«capacity_in») (l .closed)) (sym in-then) (c .agreed .never-more))
 
-  pub decided-then : settled ≡ within (start .curve) (floor-behind (start .top) (start .spread) before) (f .«capacity_in»)
+  pub decided-then : settled ≡ within (start .curve) (closing-floor (start .top) (start .spread) before) (f .«capacity_in»)
   decided-then =
       sym (c .closing .decided)
       ∙ ap (λ (m : Meaning). within m (floor-of (c .was)) (in-of (c .was))) (c .agreed .curve-stays)
       ∙ ap (λ (p : ℕ). within (start .curve) p (in-of (c .was))) floor-then
-      ∙ ap (within (start .curve) (floor-behind (start .top) (start .spread) before)) (sym in-then)
+      ∙ ap (within (start .curve) (closing-floor (start .top) (start .spread) before)) (sym in-then)
 
-  zero-then : Laws (start .curve) → floor-behind (start .top) (start .spread) before ≡ 0 → settled ≡ true
+  zero-then : Laws (start .curve) → closing-floor (start .top) (start .spread) before ≡ 0 → settled ≡ true
   zero-then laws zero-floor =
       let accounts = c .agreed .accounts in
       let most = c .agreed .most in
@@ -162,5 +196,5 @@ capacity-in number top spread threshold m ahead laws calls =
       accounted = λ before later t f settled split said. accounted-then start before later f settled end (close-of number top spread threshold m ahead calls before later t f settled split said);
       demanded = λ before later t f settled split said. demanded-then start before later f settled end (close-of number top spread threshold m ahead calls before later t f settled split said);
       never-rises = λ before later t f settled split said. never-rises-then start before later f settled end (close-of number top spread threshold m ahead calls before later t f settled split said);
-      at-floor-zero = λ before later t f settled split said. zero-then start before later f settled end (close-of number top spread threshold m ahead calls before later t f settled split said) laws
+      at-floor-zero = λ before later t f settled split said. zero-then start before later f settled end (close-of number top spread threshold m ahead calls before later t f settled split said) laws;
     }

@@ -1,16 +1,13 @@
 -- What the kept turns of a history say, gathered along them: the ledger. And that it is what the definitions on histories say.
-use Prim.Native.Nat.{ℕ, _+_, _≤_, _<_}
-use lib.ListN.{length}
+use Prim.Native.Nat.{ℕ}
 use mathlib.Core.Bool.{Bool, true, false, cond}
 use mathlib.Core.List.{List, [], _∷_, _++_, reverse, reverse-cons}
 use mathlib.Core.Path.{_≡_, refl, sym, ap, subst, _∙_}
-use native.Mathlib.Omega.{arith}
 use Rattle.std.specs.shelf.Lists.{joined}
 use Rattle.std.proofs.shelf.Lists.{append-nil, append-assoc}
 use Rattle.auction.specs.declared.calls.Figures.{Figures}
 use Rattle.auction.specs.declared.calls.Turn.{Turn}
 use Rattle.auction.specs.State.{State}
-use Rattle.auction.specs.Steps.{step}
 use Rattle.auction.specs.History.{Saying, refused, enrols, opens, exits, serves, steps-back, closes, says, saying, application-in, exit-in, years-in, figures-in, opening, enrolments, all-exits, all-years, closings, since-opening}
 use Rattle.auction.proofs.Moves.{Move, after, heard, moved}
 use Rattle.auction.proofs.Trails.{keeps, replayed, Replays}

@@ -10,3 +10,11 @@ pub mod Moments
 pub mod Closings
 pub mod Settlements
 pub mod Promised
+pub mod Gathers
+pub mod Rounds
+pub mod Above
+pub mod Floors
+pub mod TurnByTurn
+pub mod LawfulStates
+pub mod Runs
+pub mod Awarding

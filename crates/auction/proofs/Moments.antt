@@ -1,29 +1,22 @@
 -- A moment of a history: what came before it is the history of the first calls, and what held then holds of it.
-use Prim.Native.Nat.{ℕ, _+_, _-_, _≤_, _<_}
-use lib.ListN.{length}
-use mathlib.Core.Bool.{Bool, true, false, cond}
-use mathlib.Core.List.{List, [], _∷_, _++_, reverse, reverse-cons}
-use mathlib.Core.Path.{_≡_, refl, sym, ap, subst, _∙_}
+use Prim.Native.Nat.{ℕ}
+use mathlib.Core.Bool.{Bool, true, false}
+use mathlib.Core.List.{List, [], _∷_, _++_, reverse}
+use mathlib.Core.Path.{_≡_, refl, sym, ap, _∙_}
 use native.Mathlib.Omega.{arith}
-use Rattle.std.specs.shelf.Lists.{All, joined}
+use Rattle.std.specs.shelf.Lists.{joined}
 use Rattle.std.proofs.shelf.Lists.{append-nil, append-assoc}
 use Rattle.std.proofs.shelf.Tests.{cond-both, false≢true}
 use Rattle.auction.specs.declared.calls.Call.{Call}
 use Rattle.auction.specs.declared.calls.Figures.{Figures}
 use Rattle.auction.specs.declared.calls.Turn.{Turn}
-use Rattle.auction.specs.declared.clocks.Stage.{Stage}
-use Rattle.auction.specs.declared.clocks.Stage.the-variants.{Enrolling, Open, Shut, Settled}
-use Rattle.auction.specs.History.{Saying, refused, enrols, opens, exits, serves, steps-back, closes, saying, turn, played, ended, struck, kept-latest-first, is-entry, less-entry, keep, kept-on, application-in, figures-in, enrolments, closings}
+use Rattle.auction.specs.declared.clocks.Stage.the-variants.{Open, Settled}
+use Rattle.auction.specs.History.{Saying, refused, enrols, opens, exits, serves, steps-back, closes, saying, turn, played, ended, kept-latest-first, is-entry, less-entry, keep, kept-on, application-in, figures-in, enrolments, closings}
 use Rattle.auction.specs.State.{State, floor-of, in-of}
-use Rattle.auction.specs.Steps.{step, opened, moved-to, figures-of}
-use Rattle.auction.proofs.Agreement.{Agrees, agrees}
+use Rattle.auction.specs.Steps.{step, moved-to, figures-of}
 use Rattle.auction.proofs.Ledgers.{ledger, joined-latest, enrolled-said, closed-said}
-use Rattle.auction.proofs.Moves.{Move, refusing, enrolling, beginning, exiting, serving, backing, shutting, settling, going-on, after, heard, moved, Moved}
-use Rattle.auction.proofs.Trails.{replayed, Replays, Follows, follows}
-use Rattle.book.specs.declared.terms.Application.{Application}
-use Rattle.curve.specs.Meaning.{Meaning}
+use Rattle.auction.proofs.Moves.{Move, refusing, enrolling, beginning, exiting, serving, backing, shutting, settling, going-on, after, heard}
 use Rattle.curve.specs.Words.{within}
-use Rattle.ranking.specs.declared.exits.Exit.{Exit as Leaving}
 
 pub record Moment (s : State) (calls : List Call) (before later : List Turn) (t : Turn) : Type 0 where
   pub first : List Call
@@ -50,7 +43,7 @@ moment s (c ∷ calls) (b ∷ before) later t e =
       before-is = let e′ = m .before-is in cc;
       turn-is = m .turn-is;
       later-is = m .later-is;
-      end-is = m .end-is
+      end-is = m .end-is;
     }
 
 -- what a history says of enrolments and Closes, its kept turns say

@@ -1,11 +1,10 @@
 -- What a call does to an auction: it is refused and nothing changes, or it is one of eight moves, each with what its questions
 -- established. Everything about lists of calls goes by cases of these.
-use Prim.Native.Nat.{ℕ, _+_, _-_, _≤_, _<_}
-use lib.Dec.{leb, ltb}
+use Prim.Native.Nat.{ℕ, _+_, _≤_, _<_}
 use lib.ListN.{length}
-use mathlib.Core.Bool.{Bool, true, false, cond, _&&_}
+use mathlib.Core.Bool.{Bool, true, false}
 use mathlib.Core.List.{List, [], _∷_}
-use mathlib.Core.Path.{_≡_, refl, sym, ap, subst}
+use mathlib.Core.Path.{_≡_, refl}
 use native.Mathlib.Omega.{arith}
 use Rattle.std.specs.declared.option.Option.{Option}
 use Rattle.std.specs.declared.option.Option.the-variants.{None, Some}
@@ -18,8 +17,8 @@ use Rattle.auction.specs.declared.clocks.Stage.{Stage}
 use Rattle.auction.specs.declared.clocks.Stage.the-variants.{Enrolling, Open, Shut, Settled}
 use Rattle.auction.specs.declared.clocks.Stamp.{Stamp}
 use Rattle.auction.specs.State.{State, floor-of, in-of, same-stage, current, terms-of, stamp-of}
-use Rattle.auction.specs.Steps.{step, carried-out, own-clock, with-book, moved-to, figures-of, closed}
-use Rattle.auction.specs.History.{Saying, refused, enrols, opens, exits, serves, steps-back, closes, says, saying, turn}
+use Rattle.auction.specs.Steps.{step, carried-out, own-clock, with-book, moved-to, figures-of}
+use Rattle.auction.specs.History.{Saying, refused, enrols, opens, exits, serves, steps-back, closes, says}
 use Rattle.book.specs.Asked.{enrol-questions, exit-questions, years-questions, back-questions, years-known}
 use Rattle.book.specs.Books.{unit-at, new-unit, with-unit, with-exit, with-years, stepped-back, closed-book, total-enrolled}
 use Rattle.book.specs.declared.terms.Application.{Application}
@@ -30,6 +29,7 @@ use Rattle.curve.specs.Words.{within}
 -- what the questions of an accepted call established
 pub record Enrols (s : State) (a : Application) : Type 0 where
   pub stage-is : s .stage ≡ Enrolling
+  pub few : length (s .book .units) < 512
   pub least : 1000 ≤ a .capacity
   pub most : a .capacity ≤ 5000000
   pub room : total-enrolled (s .book .units) + a .capacity ≤ ceiling
@@ -41,6 +41,7 @@ pub record Exits (s : State) (i price : ℕ) : Type 0 where
   pub inside : unit-at (s .book) i .standing .inside ≡ true
   pub above : floor-of s < price
   pub most : price ≤ s .top
+  pub few : length (s .book .entries) < 1024
 
 pub record Serves (s : State) (i years : ℕ) : Type 0 where
   pub stage-is : s .stage ≡ Open
@@ -48,6 +49,7 @@ pub record Serves (s : State) (i years : ℕ) : Type 0 where
   pub inside : unit-at (s .book) i .standing .inside ≡ true
   pub least : 1 ≤ years
   pub fewer : years < unit-at (s .book) i .standing .years
+  pub few : length (s .book .entries) < 1024
 
 pub record Backs (s : State) : Type 0 where
   pub stage-is : s .stage ≡ Open
@@ -143,10 +145,11 @@ enrol-facts s c a h =
     let cap11 = and-parts _ _ (q11 .0) in
     record {
       stage-is = stage-of s Enrolling c (q9 .0);
+      few = ltb-true _ _ (q10 .0);
       least = leb-true _ _ (cap11 .0);
       most = leb-true _ _ (cap11 .1);
       room = leb-true _ _ (q12 .0);
-      known = q13 .0
+      known = q13 .0;
     }
 
 exit-facts : (s : State) (c : Stamp) (i price : ℕ) → all-yes (own-clock s Open c ∷ exit-questions (terms-of s) (s .book) i price) ≡ true → Exits s i price
@@ -155,13 +158,16 @@ exit-facts s c i price h =
     let q15 = and-parts _ _ (q9 .1) in
     let q16 = and-parts _ _ (q15 .1) in
     let q17 = and-parts _ _ (q16 .1) in
+    let q18 = and-parts _ _ (q17 .1) in
+    let q20 = and-parts _ _ (q18 .1) in
     let between = and-parts _ _ (q17 .0) in
     record {
       stage-is = stage-of s Open c (q9 .0);
       here = ltb-true _ _ (q15 .0);
       inside = q16 .0;
       above = ltb-true _ _ (between .0);
-      most = leb-true _ _ (between .1)
+      most = leb-true _ _ (between .1);
+      few = ltb-true _ _ (q20 .0);
     }
 
 years-facts : (s : State) (c : Stamp) (i years : ℕ) → all-yes (own-clock s Open c ∷ years-questions (s .book) i years) ≡ true → Serves s i years
@@ -170,13 +176,15 @@ years-facts s c i years h =
     let q15 = and-parts _ _ (q9 .1) in
     let q16 = and-parts _ _ (q15 .1) in
     let q19 = and-parts _ _ (q16 .1) in
+    let q20 = and-parts _ _ (q19 .1) in
     let between = and-parts _ _ (q19 .0) in
     record {
       stage-is = stage-of s Open c (q9 .0);
       here = ltb-true _ _ (q15 .0);
       inside = q16 .0;
       least = leb-true _ _ (between .0);
-      fewer = ltb-true _ _ (between .1)
+      fewer = ltb-true _ _ (between .1);
+      few = ltb-true _ _ (q20 .0);
     }
 
 pub moved : (s : State) (c : Call) → Moved s c (step s c)
@@ -202,7 +210,7 @@ moved s (StepBack c) =
     record {
       move = backing (record { stage-is = stage-of s Open c (q9 .0); some = ltb-true _ _ (and-parts _ _ (q9 .1) .0) });
       state-is = refl;
-      saying-is = refl
+      saying-is = refl;
     })
     (refused-move s (StepBack c))
 moved s (Close c) =

@@ -17,7 +17,7 @@ use Rattle.std.proofs.shelf.Tests.{cond-both, cond-true, cond-false, leb-true, 
 use Rattle.book.specs.declared.unit.Unit.{Unit as Row}
 use Rattle.book.specs.Books.{no-unit, leaving, in-kw, capacity-in, total-enrolled, exits-up-to}
 use Rattle.ranking.specs.declared.exits.Exit.{Exit}
-use Rattle.ranking.specs.Rankings.{Absent, Distinct}
+use Rattle.ranking.specs.Rankings.{Distinct}
 
 -- the exit of one unit, before those of the units that follow
 abbrev first-exit : ℕ → ℕ → Row → Option ℕ → List Exit → List Exit
@@ -91,6 +91,19 @@ exits-room top n [] = omega arith
 exits-room top n (u ∷ us) =
     let one : in-kw u + sumBy (λ e. e .capacity) (exits-up-to top n (u ∷ us)) ≤ u .enrolled .capacity + sumBy (λ e. e .capacity) (exits-up-to top (n + 1) us) = room-first top n u (u .standing .exit) (exits-up-to top (n + 1) us) in
     let more = exits-room top (n + 1) us in
+    omega arith
+
+-- no more exits than units
+few-first : (top n : ℕ) (u : Row) (o : Option ℕ) (rest : List Exit) → length (first-exit top n u o rest) ≤ length rest + 1
+few-first top n u None rest = omega arith
+few-first top n u (Some price) rest =
+    cond-both (leb price top) (leaving n u price ∷ rest) rest (λ (es : List Exit). length es ≤ length rest + 1) (λ e. omega arith) (λ e. omega arith)
+
+pub exits-few : (top n : ℕ) (us : List Row) → length (exits-up-to top n us) ≤ length us
+exits-few top n [] = omega arith
+exits-few top n (u ∷ us) =
+    let one : length (exits-up-to top n (u ∷ us)) ≤ length (exits-up-to top (n + 1) us) + 1 = few-first top n u (u .standing .exit) (exits-up-to top (n + 1) us) in
+    let more = exits-few top (n + 1) us in
     omega arith
 
 -- and back: what holds of the exits holds of the exit of each unit that left at a price of at most the cap

@@ -1,10 +1,10 @@
 -- Sums over the units of a book, and what an entry or a new unit makes of them.
-use Prim.Native.Nat.{ℕ, _+_, _≤_, _<_}
-use lib.Dec.{eqb, leb}
+use Prim.Native.Nat.{ℕ, _+_, _<_}
+use lib.Dec.{eqb}
 use lib.ListN.{length, getD, set}
-use mathlib.Core.Bool.{Bool, true, false, cond}
+use mathlib.Core.Bool.{true, cond}
 use mathlib.Core.List.{List, [], _∷_, _++_}
-use mathlib.Core.Path.{_≡_, refl, sym, ap, subst, _∙_}
+use mathlib.Core.Path.{_≡_, refl, sym, ap, _∙_}
 use native.Mathlib.Omega.{arith}
 use Rattle.std.specs.declared.option.Option.{Option}
 use Rattle.std.specs.declared.option.Option.the-variants.{None, Some}
@@ -61,6 +61,9 @@ new-unit-is a =
 
 pub new-kw : (a : Application) → new-unit a .enrolled .capacity ≡ a .capacity
 new-kw a = elim (class-of (a .class)) as (λ o. unit-as a o .enrolled .capacity ≡ a .capacity) [ None ↦ refl | Some c ↦ refl ]
+
+pub new-years : (a : Application) → new-unit a .enrolled .years ≡ a .years
+new-years a = elim (class-of (a .class)) as (λ o. unit-as a o .enrolled .years ≡ a .years) [ None ↦ refl | Some c ↦ refl ]
 
 pub new-in-kw : (a : Application) → in-kw (new-unit a) ≡ a .capacity
 new-in-kw a = ap in-kw (new-unit-is a) ∙ new-kw a

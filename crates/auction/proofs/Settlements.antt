@@ -1,10 +1,10 @@
 -- The settlement of an auction that settled, and what it awards.
-use Prim.Native.Nat.{ℕ, zero, suc, _+_, _-_, _≤_, _<_}
+use Prim.Native.Nat.{ℕ, zero, suc, _+_, _≤_, _<_}
 use lib.Dec.{eqb}
 use lib.ListN.{length, getD, take, drop}
-use mathlib.Core.Bool.{Bool, true, false, _||_}
+use mathlib.Core.Bool.{Bool, true, false}
 use mathlib.Core.List.{List, [], _∷_, _++_, map}
-use mathlib.Core.Logic.{_⊎_, ⊎-elim}
+use mathlib.Core.Logic.{⊎-elim}
 use mathlib.Core.Path.{_≡_, refl, sym, ap, subst, _∙_}
 use native.Mathlib.Omega.{arith}
 use Rattle.std.specs.declared.option.Option.{Option}
@@ -13,27 +13,28 @@ use Rattle.std.specs.shelf.Lists.{All}
 use Rattle.std.proofs.shelf.Elements.{all-getD, all-weaker, all-append, all-take, all-drop, all-map}
 use Rattle.std.proofs.shelf.Lists.{take-append-drop, getD-past}
 use Rattle.std.proofs.shelf.Sorted.{shuffled-sym, all-shuffled}
-use Rattle.std.proofs.shelf.Tests.{both-ways, false≢true, true≢false, or-cases, or-parts, eqb-true, eqb-false, cases-lt}
+use Rattle.std.proofs.shelf.Tests.{both-ways, false≢true, true≢false, or-cases, or-parts, or-left, or-right, eq-eqb, eqb-true, eqb-false, cases-lt, cond-true, cond-false}
 use Rattle.std.proofs.shelf.Ways.{tells}
-use Rattle.auction.specs.Awards.{among, awarded-exits, is-awarded}
+use Rattle.auction.specs.declared.clocks.Stage.the-variants.{Settled}
+use Rattle.auction.specs.Awards.{among, awarded-exits, is-awarded, award-of}
 use Rattle.auction.specs.History.{is-none}
 use Rattle.auction.specs.Promise.{Settlement-of}
 use Rattle.auction.specs.State.{State, floor-of, in-of, priced, ranked-exits}
 use Rattle.auction.proofs.RoundExits.{exits-most, exit-holds, exits-true}
 use Rattle.auction.proofs.Soundness.{Sound, clearable, ranked-so}
 use Rattle.book.specs.declared.unit.Unit.{Unit as Row}
-use Rattle.book.specs.Books.{no-unit, unit-at, leaving, exits-up-to}
+use Rattle.book.specs.Books.{no-unit, years-at, leaving, exits-up-to}
 use Rattle.clearing.proofs.BuyersBest.{best}
 use Rattle.clearing.proofs.Outcomes.{outcome-holds}
 use Rattle.clearing.proofs.StoppingPlaces.{stops-near, awards-below}
 use Rattle.clearing.specs.declared.settlement.Settlement.{Settlement}
-use Rattle.clearing.specs.Finding.{found-outcome, outcome-of}
-use Rattle.clearing.specs.Grounds.{Settles, Outcome, clears}
+use Rattle.clearing.specs.Finding.{outcome-of}
+use Rattle.clearing.specs.Grounds.{Settles, Outcome}
 use Rattle.clearing.specs.Places.{price-at}
 use Rattle.clearing.specs.Premise.{Clearable}
 use Rattle.clearing.specs.Sound.{Awards-below}
 use Rattle.curve.proofs.DemandWords.{words}
-use Rattle.curve.specs.Meaning.{Meaning, Laws}
+use Rattle.curve.specs.Meaning.{Laws}
 use Rattle.curve.specs.Words.{within}
 use Rattle.ranking.specs.Ahead.{price-ahead}
 use Rattle.ranking.specs.declared.exits.Exit.{Exit}
@@ -54,6 +55,13 @@ among-none i [] h = tt
 among-none i (e ∷ es) h =
     let parts = or-parts (eqb i (e .unit)) (among i es) h in
     ((λ same. eqb-false i (e .unit) (parts .0) (sym same)), among-none i es (parts .1))
+
+among-each : (es : List Exit) → All (λ e. among (e .unit) es ≡ true) es
+among-each [] = tt
+among-each (x ∷ es) = (
+  or-left _ _ (eq-eqb (x .unit) (x .unit) refl),
+  all-weaker (λ e. among (e .unit) es ≡ true) _ (λ e there. or-right (eqb (e .unit) (x .unit)) (among (e .unit) es) there) es (among-each es),
+)
 
 -- of exits in order, each of the first k is ahead of each behind them
 order-split : (ahead : Exit → Exit → Bool) (k : ℕ) (xs : List Exit) → In-order ahead xs → All (λ x. All (λ e. ahead e x ≡ true) (take k xs)) (drop k xs)
@@ -102,6 +110,16 @@ module _ (s : State) (sound : Sound s) (order : Order-laws (λ e. e .unit) (s .a
   ranked-most : All (λ e. e .price ≤ s .top) ranked
   ranked-most = all-shuffled _ _ ranked (ranked-so s order .same-items) (exits-most (s .top) 0 us)
 
+  -- an exit in the ranking has the capacity and the years of its unit
+  abbrev Whole : Exit → Type 0
+  Whole e = _≡_ {A = ℕ × ℕ} (getD us (e .unit) no-unit .enrolled .capacity, getD us (e .unit) no-unit .standing .years) (e .capacity, e .years)
+
+  ranked-whole : All Whole ranked
+  ranked-whole =
+      all-shuffled Whole _ ranked (ranked-so s order .same-items)
+      (exits-true (s .top) 0 us Whole
+      (λ i price lt e le. let k : 0 + i ≡ i = omega arith in let of : ℕ → ℕ × ℕ = λ j. (getD us j no-unit .enrolled .capacity, getD us j no-unit .standing .years) in ap of k))
+
   -- an exit in the ranking is at the price at which its unit left
   ranked-true : All (λ e. getD us (e .unit) no-unit .standing .exit ≡ Some (e .price)) ranked
   ranked-true =
@@ -112,6 +130,28 @@ module _ (s : State) (sound : Sound s) (order : Order-laws (λ e. e .unit) (s .a
   module _ (c : Settlement) (settles : Settles (s .curve) (floor-of s) (in-of s) ranked c) where
     below : Awards-below ranked c
     below = awards-below (floor-of s) (in-of s) ranked ok c (stops-near (s .curve) (words (s .curve) laws) (floor-of s) (in-of s) ranked ok c settles .0) (settles .price-is)
+
+    -- what is awarded is something
+    pub award-some : (i : ℕ) → i < length us → is-awarded s c i ≡ true → 1000 ≤ award-of s c i .0
+    award-some i lt awarded =
+        let u : Row = getD us i no-unit in
+        let is : award-of s c i ≡ (u .enrolled .capacity, years-at (c .price) u) = cond-true (is-awarded s c i) _ _ awarded in
+        let size : award-of s c i .0 ≡ u .enrolled .capacity = ap (λ (a : ℕ × ℕ). a .0) is in
+        let large : 1000 ≤ u .enrolled .capacity = all-getD (λ v. 1000 ≤ v .enrolled .capacity) us i no-unit lt (sound .large) in
+        omega arith
+
+    pub award-none : (i : ℕ) → is-awarded s c i ≡ false → award-of s c i ≡ (0, 0)
+    award-none i unawarded = cond-false (is-awarded s c i) _ _ unawarded
+
+    award-whole : (i : ℕ) → is-awarded s c i ≡ true → award-of s c i ≡ (getD us i no-unit .enrolled .capacity, getD us i no-unit .standing .years)
+    award-whole i awarded = cond-true (is-awarded s c i) _ _ awarded
+
+    exits-whole : All (λ e. award-of s c (e .unit) ≡ (e .capacity, e .years)) (awarded-exits s c)
+    exits-whole =
+        all-weaker (λ e. (among (e .unit) (awarded-exits s c) ≡ true) × Whole e) (λ e. award-of s c (e .unit) ≡ (e .capacity, e .years))
+        (λ e h. award-whole (e .unit) (or-right (getD us (e .unit) no-unit .standing .inside) _ (h .0)) ∙ h .1)
+        (awarded-exits s c)
+        (all-both (λ e. among (e .unit) (awarded-exits s c) ≡ true) Whole (awarded-exits s c) (among-each (awarded-exits s c)) (all-take _ (c .stop) ranked ranked-whole))
 
     price-in-round : c .price ≤ s .top
     price-in-round =
@@ -151,11 +191,12 @@ module _ (s : State) (sound : Sound s) (order : Order-laws (λ e. e .unit) (s .a
         let none : among i (awarded-exits s c) ≡ false = or-parts (getD us i no-unit .standing .inside) (among i (awarded-exits s c)) unawarded .1 in
         ⊎-elim
         (λ (high : s .top < price).
-        let most = price-in-round in
-        (omega arith,
-        all-weaker (λ e. e .price ≤ s .top) (λ e. price-ahead (s .ahead) e (leaving i (getD us i no-unit) price) ≡ true)
-        (λ e le. let lower : e .price < price = omega arith in lower-ahead (s .ahead) e (leaving i (getD us i no-unit) price) lower)
-        (awarded-exits s c) (all-take _ (c .stop) ranked ranked-most)))
+        let most = price-in-round in (
+          omega arith,
+          all-weaker (λ e. e .price ≤ s .top) (λ e. price-ahead (s .ahead) e (leaving i (getD us i no-unit) price) ≡ true)
+              (λ e le. let lower : e .price < price = omega arith in lower-ahead (s .ahead) e (leaving i (getD us i no-unit) price) lower)
+              (awarded-exits s c) (all-take _ (c .stop) ranked ranked-most),
+        ))
         (λ (low : price ≤ s .top).
         let k : 0 + i ≡ i = omega arith in
         let items : List Exit = exits-up-to (s .top) 0 us in
@@ -170,20 +211,27 @@ module _ (s : State) (sound : Sound s) (order : Order-laws (λ e. e .unit) (s .a
         let left = some-is (getD us i no-unit .standing .exit) outside in
         (left .0, left .1, left-behind i (left .0) lt unawarded (left .1) .0)
 
-    settlement-with : (exits : List Exit) → Exit-ranking (s .ahead) exits ranked → priced s ≡ Some c → Settlement-of (s .curve) (s .ahead) (floor-of s) (in-of s) exits s
-    settlement-with exits ranking is =
+    settlement-with : (exits : List Exit) → s .stage ≡ Settled → Exit-ranking (s .ahead) exits ranked → priced s ≡ Some c → Settlement-of (s .curve) (s .ahead) (floor-of s) (in-of s) exits s
+    settlement-with exits settled ranking is =
         record {
           settlement = c;
+          is-settled = settled;
           is-priced = is;
           is-ranking = ranking;
           settles = settles;
+          in-awarded = λ i lt stays. award-whole i (or-left _ _ (in-or-out-at i lt ∙ ap is-none stays));
+          exits-awarded = exits-whole;
+          others-nothing = award-none;
           awarded-below = awarded-left-below;
           others-left = others-left-above;
           others-behind = λ i price lt unawarded left. left-behind i price lt unawarded left .1;
-          best = best (s .curve) laws (words (s .curve) laws) (floor-of s) (in-of s) ranked ok c settles
+          best = best (s .curve) laws (words (s .curve) laws) (floor-of s) (in-of s) ranked ok c settles;
         }
 
-  pub settlement-of : (exits : List Exit) → Exit-ranking (s .ahead) exits ranked → within (s .curve) (floor-of s) (in-of s) ≡ true → Settlement-of (s .curve) (s .ahead) (floor-of s) (in-of s) exits s
-  settlement-of exits ranking yes-within =
-      let found = priced-settles yes-within (priced s) priced-holds in
-      settlement-with (found .0) (found .2) exits ranking (found .1)
+  pub priced-some : within (s .curve) (floor-of s) (in-of s) ≡ true → (c : Settlement) × (priced s ≡ Some c) × Settles (s .curve) (floor-of s) (in-of s) ranked c
+  priced-some yes-within = priced-settles yes-within (priced s) priced-holds
+
+  pub settlement-of : (exits : List Exit) → s .stage ≡ Settled → Exit-ranking (s .ahead) exits ranked → within (s .curve) (floor-of s) (in-of s) ≡ true → Settlement-of (s .curve) (s .ahead) (floor-of s) (in-of s) exits s
+  settlement-of exits settled ranking yes-within =
+      let found = priced-some yes-within in
+      settlement-with (found .0) (found .2) exits settled ranking (found .1)

@@ -1,27 +1,27 @@
 -- What holds of every auction that was opened, whatever was called since; from it the round that is open can be cleared.
-use Prim.Native.Nat.{ℕ, _+_, _-_, _≤_, _<_}
+use Prim.Native.Nat.{ℕ, _+_, _≤_, _<_}
 use lib.Dec.{eqb}
 use lib.ListN.{length, getD, set}
-use mathlib.Core.Bool.{Bool, true, false, cond}
+use mathlib.Core.Bool.{Bool, true, cond}
 use mathlib.Core.List.{List, [], _∷_, _++_, map}
 use mathlib.Core.Path.{_≡_, refl, sym, ap, subst, _∙_}
 use native.Mathlib.Omega.{arith}
 use Rattle.std.specs.declared.option.Option.{Option}
 use Rattle.std.specs.declared.option.Option.the-variants.{None, Some}
-use Rattle.std.specs.shelf.Lists.{All, sumBy}
+use Rattle.std.specs.shelf.Lists.{All}
 use Rattle.std.specs.shelf.Sorted.{Shuffled}
 use Rattle.std.proofs.shelf.Elements.{all-from-getD, all-weaker}
 use Rattle.std.proofs.shelf.Lists.{map-push, getD-set-same, getD-set-other}
-use Rattle.std.proofs.shelf.Sorted.{shuffled-refl, shuffled-trans, shuffled-cons, shuffled-to-front}
+use Rattle.std.proofs.shelf.Sorted.{shuffled-refl, shuffled-trans, shuffled-cons, shuffled-to-front, length-shuffled}
 use Rattle.std.proofs.shelf.Tests.{cond-both, false≢true}
 use Rattle.auction.specs.declared.calls.Turn.{Turn}
-use Rattle.auction.specs.History.{application-of, last-for, is-none, said-unit}
+use Rattle.auction.specs.History.{last-for, is-none}
 use Rattle.auction.specs.State.{State, floor-of, in-of, ranked-exits}
 use Rattle.auction.specs.Steps.{opened}
 use Rattle.auction.proofs.Agreement.{Agrees, agrees-more, agrees-first, in-unpriced, begun-at, Out-in}
 use Rattle.auction.proofs.Ledgers.{Ledger, noted, ledger, along}
 use Rattle.auction.proofs.Moves.{Move, refusing, enrolling, beginning, exiting, serving, backing, shutting, settling, going-on, after, heard}
-use Rattle.auction.proofs.RoundExits.{Above, Above-at, exits-distinct, exits-most, exits-least, exits-large, exits-room, exits-push, exits-same, exits-none, exits-more}
+use Rattle.auction.proofs.RoundExits.{Above, Above-at, exits-distinct, exits-most, exits-least, exits-large, exits-room, exits-few, exits-push, exits-same, exits-none, exits-more}
 use Rattle.auction.proofs.Rows.{new-unit-is}
 use Rattle.auction.proofs.Trails.{keeps, replayed, Replays}
 use Rattle.book.specs.declared.unit.Unit.{Unit as Row}
@@ -65,7 +65,7 @@ sound-if-agrees start s l most g =
       large = g .large;
       most = g .most;
       in-or-out = all-from-getD (λ u. u .standing .inside ≡ is-none (u .standing .exit)) (s .book .units) no-unit (λ i lt. subst (λ (u : Row). u .standing .inside ≡ is-none (u .standing .exit)) (sym (g .each-unit i lt)) refl);
-      above-floor = all-above start s l g
+      above-floor = all-above start s l g;
     }
 
 -- the ranked exits of the round are a ranking of its exits
@@ -73,6 +73,19 @@ sound-if-agrees start s l most g =
 pub ranked-so : (s : State) → Order-laws (λ e. e .unit) (s .ahead) → Exit-ranking (s .ahead) (exits-up-to (s .top) 0 (s .book .units)) (ranked-exits s)
 ranked-so s laws =
     ranking-stands (λ e. e .unit) (price-ahead (s .ahead)) (price-laws (s .ahead) laws) (exits-up-to (s .top) 0 (s .book .units)) (exits-distinct (s .top) 0 (s .book .units))
+
+pub ranked-few : (s : State) → Order-laws (λ e. e .unit) (s .ahead) → length (ranked-exits s) ≤ length (s .book .units)
+ranked-few s order =
+    let items : List Exit = exits-up-to (s .top) 0 (s .book .units) in
+    let same = length-shuffled items (ranked-exits s) (ranked-so s order .same-items) in
+    let few = exits-few (s .top) 0 (s .book .units) in
+    omega arith
+
+pub in-most : (s : State) → Sound s → in-of s ≤ ceiling
+in-most s sound =
+    let room = exits-room (s .top) 0 (s .book .units) in
+    let most = sound .most in
+    omega arith
 
 pub clearable : (s : State) → Sound s → Order-laws (λ e. e .unit) (s .ahead) → Clearable (floor-of s) (in-of s) (ranked-exits s)
 clearable s sound laws =

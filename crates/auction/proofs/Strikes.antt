@@ -1,34 +1,27 @@
 -- Striking: the kept calls made again are answered as they were, and the book is what they say.
-use Prim.Native.Nat.{ℕ, zero, suc, _+_, _≤_, _<_}
+use Prim.Native.Nat.{ℕ, zero, suc, _+_, _<_}
 use lib.ListN.{length, getD}
-use mathlib.Core.Bool.{Bool, true, false}
-use mathlib.Core.List.{List, [], _∷_, _++_, map, reverse, reverse-cons}
+use mathlib.Core.Bool.{Bool}
+use mathlib.Core.List.{List, [], _∷_, _++_, reverse, reverse-cons}
 use mathlib.Core.Path.{_≡_, refl, sym, ap, subst, _∙_}
 use native.Mathlib.Omega.{arith}
 use native.Mathlib.Nat.{add-zero}
 use Rattle.std.proofs.shelf.Lists.{map-push, same-lists, getD-default}
 use Rattle.auction.specs.declared.calls.Call.{Call}
 use Rattle.auction.specs.declared.calls.Turn.{Turn}
-use Rattle.auction.specs.History.{turn, played, ended, struck, kept-latest-first, enrolments, all-exits, all-years, application-of, no-application, said-unit, said-from, said-units}
+use Rattle.auction.specs.History.{turn, played, ended, struck, kept-latest-first, all-exits, all-years, application-of, said-unit, said-from}
 use Rattle.auction.specs.Promise.{Alike, Striking, calls-of}
 use Rattle.auction.specs.State.{State}
 use Rattle.auction.specs.Steps.{step, opened}
 use Rattle.auction.proofs.Agreement.{Agrees, agrees}
 use Rattle.auction.proofs.Ledgers.{Ledger, ledger, enrolled-said, gone-said, years-said}
-use Rattle.auction.proofs.Trails.{replayed, Replays, Follows, follows}
+use Rattle.auction.proofs.Runs.{ended-push, played-push}
+use Rattle.auction.proofs.Trails.{replayed, Replays, follows}
 use Rattle.book.specs.declared.terms.Application.{Application}
 use Rattle.book.specs.declared.unit.Unit.{Unit as Row}
 use Rattle.book.specs.Books.{no-unit}
 use Rattle.curve.specs.Meaning.{Meaning}
 use Rattle.ranking.specs.declared.exits.Exit.{Exit as Leaving}
-
-ended-push : (s : State) (cs : List Call) (c : Call) → ended s (cs ++ c ∷ []) ≡ step (ended s cs) c .0
-ended-push s [] c = refl
-ended-push s (d ∷ cs) c = ended-push (step s d .0) cs c
-
-played-push : (s : State) (cs : List Call) (c : Call) → played s (cs ++ c ∷ []) ≡ played s cs ++ turn c (step (ended s cs) c .1) ∷ []
-played-push s [] c = refl
-played-push s (d ∷ cs) c = ap (λ (l : List Turn). turn d (step s d .1) ∷ l) (played-push (step s d .0) cs c)
 
 calls-latest : (t : Turn) (kept : List Turn) → calls-of (reverse (t ∷ kept)) ≡ calls-of (reverse kept) ++ t .call ∷ []
 calls-latest t kept = ap calls-of (reverse-cons t kept) ∙ map-push (λ u. u .call) (reverse kept) t
@@ -84,8 +77,8 @@ striking number top spread threshold m ahead calls =
       same-answers = played-again start kept (f .replays);
       same-end = subst (λ (z : State). Alike (ended start (calls-of (struck h))) z) same (record { same-stage = refl; same-round = refl; same-book = refl; same-price = refl; same-awards = λ settled i. refl });
       book-said =
-        ap (λ (z : State). z .book .units) (f .is-replayed) ∙ said
-        ∙ ap (λ (x : List (ℕ × ℕ)). said-from x (ledger kept .years) 0 (ledger kept .enrolled)) (sym (gone-said kept))
-        ∙ ap (λ (x : List (ℕ × ℕ)). said-from (all-exits (struck h)) x 0 (ledger kept .enrolled)) (sym (years-said kept))
-        ∙ ap (said-from (all-exits (struck h)) (all-years (struck h)) 0) (sym (enrolled-said kept))
+          ap (λ (z : State). z .book .units) (f .is-replayed) ∙ said
+          ∙ ap (λ (x : List (ℕ × ℕ)). said-from x (ledger kept .years) 0 (ledger kept .enrolled)) (sym (gone-said kept))
+          ∙ ap (λ (x : List (ℕ × ℕ)). said-from (all-exits (struck h)) x 0 (ledger kept .enrolled)) (sym (years-said kept))
+          ∙ ap (said-from (all-exits (struck h)) (all-years (struck h)) 0) (sym (enrolled-said kept));
     }

@@ -1,14 +1,13 @@
 -- The state after any list of calls is that of the kept calls made from the start: refusals change nothing, and a step back takes
 -- back the entry that was kept last.
-use Prim.Native.Nat.{ℕ, _+_, _≤_, _<_}
+use Prim.Native.Nat.{ℕ, _<_}
 use lib.ListN.{length, getD, set}
-use mathlib.Core.Bool.{Bool, true, false, cond}
+use mathlib.Core.Bool.{Bool, true, false}
 use mathlib.Core.List.{List, [], _∷_, _++_}
 use mathlib.Core.Path.{_≡_, refl, sym, ap, subst, _∙_}
 use native.Mathlib.Omega.{arith}
 use Rattle.std.proofs.shelf.Lists.{getD-set-same, set-set, set-getD, append-nil, append-assoc}
 use Rattle.std.proofs.shelf.Tests.{false≢true, cond-true}
-use Rattle.auction.specs.declared.calls.Answer.{Answer}
 use Rattle.auction.specs.declared.calls.Call.{Call}
 use Rattle.auction.specs.declared.calls.Turn.{Turn}
 use Rattle.auction.specs.declared.clocks.Stage.{Stage}
@@ -20,7 +19,7 @@ use Rattle.auction.proofs.Moves.{Move, refusing, enrolling, beginning, exiting
 use Rattle.book.specs.declared.entry.Entry.{Entry}
 use Rattle.book.specs.declared.unit.Standing.{Standing}
 use Rattle.book.specs.declared.unit.Unit.{Unit as Row}
-use Rattle.book.specs.Books.{Books, no-books, no-unit, unit-at, stood, with-exit, with-years, stepped-back}
+use Rattle.book.specs.Books.{Books, no-unit, stood, with-exit, with-years, stepped-back}
 
 abbrev pub keeps : Saying → Bool
 keeps refused = false
@@ -97,10 +96,10 @@ not-open g o e = let z : _≡_ {A = ℕ} 0 1 = cc in absurd (omega arith)
 none-stand : (es : List Entry) {A : Type 0} → es ≡ [] → 0 < length es → A
 none-stand es e some = let z : length es ≡ 0 = ap length e in absurd (omega arith)
 
-enrolling-quiet : (s : State) → Quiet s → s .stage ≡ Enrolling → s .book .entries ≡ []
+pub enrolling-quiet : (s : State) → Quiet s → s .stage ≡ Enrolling → s .book .entries ≡ []
 enrolling-quiet s q e = subst (λ (g : Stage). Quiet-at g (s .book .entries)) e q
 
-shut-quiet : (s : State) → Quiet s → s .stage ≡ Shut → s .book .entries ≡ []
+pub shut-quiet : (s : State) → Quiet s → s .stage ≡ Shut → s .book .entries ≡ []
 shut-quiet s q e = subst (λ (g : Stage). Quiet-at g (s .book .entries)) e q
 
 move-undone : (s : State) (move : Move s) → Quiet s → keeps (heard s move) ≡ true → Backs (after s move) → Undone s move

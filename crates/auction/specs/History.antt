@@ -3,7 +3,7 @@ use Prim.Native.Nat.{ℕ, _+_, _-_, _*_}
 use lib.Dec.{eqb}
 use lib.ListN.{getD}
 use mathlib.Core.Bool.{Bool, true, false, cond}
-use mathlib.Core.List.{List, [], _∷_, _++_, map, reverse}
+use mathlib.Core.List.{List, [], _∷_, map, reverse}
 use Rattle.std.specs.declared.option.Option.{Option}
 use Rattle.std.specs.declared.option.Option.the-variants.{None, Some}
 use Rattle.std.specs.shelf.Lists.{sumBy, joined}
@@ -14,7 +14,7 @@ use Rattle.auction.specs.declared.calls.Call.the-variants.{Enrol, Begin, Exit,
 use Rattle.auction.specs.declared.calls.Figures.{Figures}
 use Rattle.auction.specs.declared.calls.Turn.{Turn}
 use Rattle.auction.specs.State.{State}
-use Rattle.auction.specs.Steps.{step, run}
+use Rattle.auction.specs.Steps.{step}
 use Rattle.book.specs.declared.class.Side.the-variants.{Taker}
 use Rattle.book.specs.declared.terms.Application.{Application}
 use Rattle.book.specs.declared.unit.Unit.{Unit as Row}
@@ -204,7 +204,7 @@ abbrev pub unit-said : Application → Option ℕ → Option ℕ → Row
 unit-said a price years =
     record {
       enrolled = new-unit a .enrolled;
-      standing = record { years = or-else (a .years) years; inside = is-none price; exit = price }
+      standing = record { years = or-else (a .years) years; inside = is-none price; exit = price };
     }
 
 abbrev pub said-unit : List (ℕ × ℕ) → List (ℕ × ℕ) → ℕ → Application → Row

@@ -3,3 +3,10 @@ pub mod Steps
 pub mod History
 pub mod Awards
 pub mod Promise
+pub mod Sound
+pub mod Views
+pub mod Gathered
+pub mod Answers
+pub mod Endings
+pub mod Live
+pub mod Reading

@@ -53,7 +53,7 @@ opened number top spread threshold m ahead =
       threshold = threshold;
       book = no-books;
       curve = m;
-      ahead = ahead
+      ahead = ahead;
     }
 
 abbrev pub with-book : State → Books → State
@@ -67,7 +67,7 @@ with-book s b =
       threshold = s .threshold;
       book = b;
       curve = s .curve;
-      ahead = s .ahead
+      ahead = s .ahead;
     }
 
 -- the same auction in another stage, round, cap and book
@@ -82,7 +82,7 @@ moved-to s stage round top b =
       threshold = s .threshold;
       book = b;
       curve = s .curve;
-      ahead = s .ahead
+      ahead = s .ahead;
     }
 
 -- the first "no" leaves the auction as it was and is answered; else the call is carried out

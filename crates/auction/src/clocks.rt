@@ -1,3 +1,6 @@
+ghost use mathlib.Core.Path.{_≡_};
+ghost use Rattle.auction.specs.State.{same-stage};
+
 // The stage of an auction, which is the kind of its clock.
 #[derive(Clone, Copy, PartialEq)]
 pub enum Stage {
@@ -36,4 +39,25 @@ pub struct ShutClock {
 #[derive(Drop)]
 pub struct SettledClock {
     pub(crate) stamp: Stamp,
+}
+
+impl Stage {
+    pub(crate) fn is(self, other: Stage) -> bool
+        ensures { λ r. ⌜ r ≡ same-stage self other ⌝ }
+    {
+        match (self, other) {
+            (Stage::Enrolling, Stage::Enrolling) => true,
+            (Stage::Open, Stage::Open) => true,
+            (Stage::Shut, Stage::Shut) => true,
+            (Stage::Settled, Stage::Settled) => true,
+            _ => false,
+        }
+    }
+}
+
+// What closing a round gives: the clock of a round that did not clear, or of one that did.
+#[derive(Drop)]
+pub enum Closed {
+    Shut(ShutClock),
+    Settled(SettledClock),
 }

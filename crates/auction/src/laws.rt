@@ -4,5 +4,4 @@ ghost use Rattle.auction.specs.Promise.{Laws-over-calls};
 // function does nothing: its promise is a theorem.
 pub fn laws_hold()
     ensures { λ _. ⌜ Laws-over-calls ⌝ }
-{
-}
+{}
