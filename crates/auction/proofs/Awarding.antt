@@ -2,12 +2,10 @@
 use Prim.Native.Nat.{ℕ, _+_, _-_, _<_, _≤_}
 use lib.Dec.{eqb}
 use lib.ListN.{length, getD, take, drop, length-take}
-use mathlib.Core.Bool.{Bool, true, false, not, _||_}
-use mathlib.Core.List.{List, [], _∷_}
-use mathlib.Core.Path.{_≡_, refl, sym, ap, subst, _∙_}
+use mathlib.Core.Bool.{Bool, true, _||_}
+use mathlib.Core.List.{List}
+use mathlib.Core.Path.{_≡_, sym, ap, subst, _∙_}
 use native.Mathlib.Omega.{arith}
-use Rattle.std.specs.declared.option.Option.{Option}
-use Rattle.std.specs.declared.option.Option.the-variants.{None, Some}
 use Rattle.std.proofs.shelf.Lists.{drop-more, take-all, take-take}
 use Rattle.std.proofs.shelf.Ways.{tells}
 use Rattle.auction.specs.Awards.{among}
@@ -15,9 +13,8 @@ use Rattle.auction.specs.Sound.{book-above, Priceable}
 use Rattle.auction.proofs.Above.{above-parts}
 use Rattle.book.specs.Books.{Books, unit-at}
 use Rattle.book.specs.declared.terms.Terms.{Terms}
-use Rattle.book.specs.declared.unit.Standing.{Standing}
 use Rattle.book.specs.Lawful.{lawful, out-if-priced}
-use Rattle.book.proofs.Rules.{lawful-keeps, lawful-at, unit-stands, no-price-is-in}
+use Rattle.book.proofs.Rules.{lawful-keeps, lawful-at, unit-stands}
 use Rattle.ranking.specs.declared.exits.Exit.{Exit}
 
 pub terms-priceable : (t : Terms) (top spread threshold : ℕ) (b : Books) → t ≡ record { «cap» = top; floor = top - spread; threshold = threshold } → top ≤ 10000 → book-above (top - spread) b ≡ true → Priceable t b
@@ -27,16 +24,6 @@ terms-priceable t top spread threshold b e low above =
 -- a unit of a book is out exactly if it has an exit price
 pub unit-priced : (b : Books) (i : ℕ) → lawful b ≡ true → i < length (b .units) → out-if-priced (unit-at b i .standing) ≡ true
 unit-priced b i h lt = unit-stands _ (lawful-at (b .units) i (lawful-keeps b h .units) lt) .priced
-
-pub awarded-in : (s : Standing) (x : Bool) → out-if-priced s ≡ true → s .exit ≡ None → true ≡ (s .inside || x)
-awarded-in s x h e = sym (ap (λ (b : Bool). b || x) (no-price-is-in s h e))
-
-pub awarded-out : (s : Standing) (x : Bool) (price : ℕ) → out-if-priced s ≡ true → s .exit ≡ Some price → x ≡ (s .inside || x)
-awarded-out s x price h e = sym (ap (λ (b : Bool). b || x) (out (s .inside) (subst (λ (o : Option ℕ). elim o [ None ↦ s .inside | Some p ↦ not (s .inside) ] ≡ true) e h)))
-  where
-    out : (b : Bool) → not b ≡ true → b ≡ false
-    out true h = sym h
-    out false h = refl
 
 pub among-next : (i k : ℕ) (exits : List Exit) (d : Exit) (all : Bool) → k < length exits → among i (drop k exits) ≡ all → (getD exits k d .unit ≡ i → ⊥) → among i (drop (k + 1) exits) ≡ all
 among-next i k exits d all lt going differ =

@@ -10,3 +10,4 @@ pub mod Answers
 pub mod Endings
 pub mod Live
 pub mod Reading
+pub mod Rolls

@@ -3,6 +3,7 @@ use Prim.Native.Nat.{ℕ}
 use lib.Dec.{ltb}
 use lib.ListN.{length}
 use mathlib.Core.List.{List, [], _∷_}
+use mathlib.Core.Path.{_≡_}
 use Rattle.std.specs.declared.option.Option.the-variants.{None, Some}
 use Rattle.std.specs.declared.result.Result.{Result}
 use Rattle.std.specs.declared.result.Result.the-variants.{Ok, Err}
@@ -38,3 +39,7 @@ award-questions s c i = own-clock s Settled c ∷ asked 15 (ltb i (length (s .bo
 
 abbrev pub award-read : State → Stamp → ℕ → Result (ℕ × ℕ) ℕ
 award-read s c i = read-out (award-questions s c i) (award-of s (settlement-of s) i)
+
+-- if it is settled, its round clears, and that is its settlement
+abbrev pub Settled-priced : State → Type 0
+Settled-priced s = s .stage ≡ Settled → priced s ≡ Some (settlement-of s)

@@ -11,6 +11,7 @@ mod awards;
 mod entries;
 pub(crate) mod open;
 mod questions;
+mod roll;
 mod rounds;
 mod standing;
 mod turns;

@@ -37,7 +37,7 @@ fn is_among(unit: usize, exits: &[Exit]) -> bool
 }
 
 // Whether a unit is awarded, given the exits that are: it is still in, or its exit is one of them.
-fn is_awarded(row: &Unit, unit: usize, awarded: &[Exit]) -> bool
+pub(super) fn is_awarded(row: &Unit, unit: usize, awarded: &[Exit]) -> bool
     requires { ⌜ out-if-priced (now row .standing) ≡ true ⌝ }
     ensures { λ r. ⌜ r ≡ (now (row .entry) .standing .inside || among unit (now (awarded .entry))) ⌝ }
 {
@@ -48,7 +48,7 @@ fn is_awarded(row: &Unit, unit: usize, awarded: &[Exit]) -> bool
 }
 
 impl<C: Curve, O: Order<Item = Exit>> Auction<C, O> {
-    fn settled(&self) -> Settlement
+    pub(super) fn settled(&self) -> Settlement
         ensures { λ r. ⌜ r ≡ settlement-of (state (C·Curve .meaning) (O·Order .ahead) (now (self .entry))) ⌝ }
     {
         match price(&self.book, self.terms(), &self.curve, &self.order) {
@@ -62,7 +62,7 @@ impl<C: Curve, O: Order<Item = Exit>> Auction<C, O> {
     }
 
     // Gathers the awarded exits at the front of a lent table, and answers how many there are.
-    fn awarded(&self, settlement: Settlement, exits: &mut [Exit]) -> usize
+    pub(super) fn awarded(&self, settlement: Settlement, exits: &mut [Exit]) -> usize
         requires { ⌜ length (now exits) ≡ 512 ⌝ }
         ensures within { λ r. ⌜ r ≤ 512 ⌝ }
         ensures front { λ r. ⌜ take r (now (exits .exit)) ≡ awarded-exits (state (C·Curve .meaning) (O·Order .ahead) (now (self .entry))) settlement ⌝ }
