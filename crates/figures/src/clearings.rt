@@ -68,7 +68,7 @@ fn is_due(outcome: Option<Settlement>, due: Option<Settlement>) -> bool
     }
 }
 
-fn show_settlement(rt: &LibcRuntime, outcome: Option<Settlement>) -> io::Result<()> {
+pub fn show_settlement(rt: &LibcRuntime, outcome: Option<Settlement>) -> io::Result<()> {
     match outcome {
         Some(settlement) => {
             let price = settlement.price;

@@ -89,7 +89,7 @@ fn show_demand<C: Curve>(
     Ok(())
 }
 
-fn show_outcome(
+pub fn show_outcome(
     rt: &LibcRuntime,
     tally: &mut Tally,
     what: &str,

@@ -1,5 +1,6 @@
 // Walks an auction clock down a demand curve, then shows the worked figures, each beside what it should be.
 
+mod auctions;
 mod clearings;
 mod curves;
 mod outcome;
@@ -17,6 +18,7 @@ fn run(rt: &LibcRuntime) -> Result<(), AnyError> {
     curves::show(rt, &mut tally)?;
     rankings::show(rt, &mut tally)?;
     clearings::show(rt, &mut tally)?;
+    auctions::show(rt, &mut tally)?;
     let shown = tally.shown;
     let agree = tally.agree;
     println!(rt, "{agree} of {shown} figures agree")?;

@@ -1,7 +1,9 @@
 // What a call answers, as far as its questions go.
 
 ghost use mathlib.Core.Path.{_≡_};
+ghost use Rattle.auction.specs.Steps.{auction-question};
 ghost use Rattle.curve.specs.Questions.{refused, question};
+use auction::Refusal;
 use curve::CurveRefusal;
 use std::fmt;
 
@@ -21,6 +23,15 @@ pub impl fmt::Display for Outcome as OutcomeDisplay {
 impl Outcome {
     pub fn of<T: Drop>(answer: Result<T, CurveRefusal>) -> Outcome
         ensures { λ r. ⌜ r .0 ≡ refused question answer ⌝ }
+    {
+        match answer {
+            Ok(_) => Outcome(None),
+            Err(refusal) => Outcome(Some(refusal.number())),
+        }
+    }
+
+    pub fn of_auction<T: Drop>(answer: Result<T, Refusal>) -> Outcome
+        ensures { λ r. ⌜ r .0 ≡ refused auction-question answer ⌝ }
     {
         match answer {
             Ok(_) => Outcome(None),
