@@ -1,7 +1,7 @@
 // The worked auction of five units, conducted call by call.
 
 ghost use mathlib.Core.Path.{_≡_};
-ghost use Rattle.auction.specs.Steps.{exited, served, went-back};
+ghost use Rattle.auction.specs.Steps.{enrolled, exited, served, went-back, closed as closed-so};
 ghost use Rattle.auction.specs.Views.{state};
 ghost use Rattle.figures.specs.Counts.{Counted-for};
 ghost use Rattle.std.specs.Vec.{made};
@@ -194,7 +194,9 @@ fn enrol_unit<C: Curve, O: Order<Item = Exit>>(
     name: &str,
     application: &Application,
     due: usize,
-) -> Result<(), AnyError> {
+) -> Result<(), AnyError>
+    ensures { λ _. ⌜ state (C·Curve .meaning) (O·Order .ahead) (now (auction .exit)) ≡ enrolled (state (C·Curve .meaning) (O·Order .ahead) (now (auction .entry))) (now (clock .entry) .stamp) (now (application .entry)) .0 ⌝ }
+{
     let Ok(unit) = auction.enrol(clock, application) else {
         return Err("a unit is not enrolled".into());
     };
@@ -254,7 +256,9 @@ fn close_round<C: Curve, O: Order<Item = Exit>>(
     auction: &mut Auction<C, O>,
     clock: OpenClock,
     due: Ending,
-) -> Result<Closed, AnyError> {
+) -> Result<Closed, AnyError>
+    ensures { λ _. ⌜ state (C·Curve .meaning) (O·Order .ahead) (now (auction .exit)) ≡ closed-so (state (C·Curve .meaning) (O·Order .ahead) (now (auction .entry))) (clock .stamp) .0 ⌝ }
+{
     let Ok((figures, closed)) = auction.close(clock) else {
         return Err("a round is not closed".into());
     };
