@@ -1,3 +1,4 @@
+mod WorkedAuctions
 mod WorkedClearings
 mod WorkedCurves
 mod WorkedRankings

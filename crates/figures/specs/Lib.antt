@@ -1,3 +1,4 @@
+pub mod Auctions
 pub mod Clearings
 pub mod Counts
 pub mod Curves
