@@ -1,11 +1,11 @@
 -- What the calls leave of the rule that exit prices lie above the floor. Assumes nothing.
-use Rattle.std.proofs.Common.{◌≡◌, ℕ, zero, suc, ◌+◌, ◌-◌, ◌<◌, ◌≤◌, Bool, true, false, cond, ◌&&◌, ltb, List, [], ◌∷◌, ◌++◌, length, get_or, set, Some, None, Option, sym, refl, ap, ◌∙◌, subst, arith}
-use Rattle.std.proofs.lemmas.Bool.{and_parts, and_from, lt-ltb, ltb-true, leb-true}
+use Rattle.std.proofs.Common.{◌≡◌, ℕ, zero, suc, ◌<◌, ◌≤◌, Bool, true, false, cond, ltb, List, [], ◌∷◌, ◌++◌, get_or, Some, None, Option, sym, refl, arith}
+use Rattle.std.proofs.lemmas.Bool.{and_parts, and_from, lt-ltb, ltb-true}
 use Rattle.std.proofs.lemmas.Bool.Decides.{nat_tests}
 use Rattle.auction.specs.Sound.{price_above, exits_above, formers_above, book_above}
 use Rattle.auction.specs.Steps.{open_questions}
 use Rattle.book.specs.Asked.{exit_questions}
-use Rattle.book.specs.Books.{Books, no_books, no_unit, new_unit, unit_at, stood, out_at, for_years, with_unit, with_exit, with_years, undone, stepped_back, closed_book, enrolled_as, class_of}
+use Rattle.book.specs.Books.{Books, no_books, no_unit, new_unit, unit_at, out_at, for_years, with_unit, with_exit, with_years, undone, stepped_back, closed_book, enrolled_as, class_of}
 use Rattle.book.specs.declared.class.Class.{Class}
 use Rattle.book.specs.declared.class.Class.TheVariants.{Existing}
 use Rattle.book.specs.declared.entry.Entry.{Entry}

@@ -1,5 +1,5 @@
 -- A round that does not clear has a floor above 0, so another can follow it. Assumes nothing.
-use Rattle.std.proofs.Common.{◌≡◌, ℕ, zero, suc, ◌+◌, ◌-◌, ◌<◌, ◌≤◌, Bool, true, false, cond, ◌&&◌, ltb, leb, [], ◌∷◌, Some, None, sym, refl, ap, ◌∙◌, subst, arith}
+use Rattle.std.proofs.Common.{◌≡◌, ℕ, zero, suc, ◌<◌, Bool, true, false, cond, ltb, [], ◌∷◌, Some, None, sym, refl, ◌∙◌, arith}
 use Rattle.std.proofs.lemmas.Bool.{lt-ltb, ltb-true, and_parts}
 use Rattle.std.proofs.lemmas.Bool.Decides.{nat_tests}
 use Rattle.auction.specs.declared.clocks.Stage.{Stage}
@@ -14,7 +14,7 @@ use Rattle.book.proofs.ModelLaws.{capacity_at_most_total}
 use Rattle.book.proofs.Rules.{lawful_keeps}
 use Rattle.curve.specs.Meaning.{Meaning, Laws}
 use Rattle.curve.specs.Questions.{first_no}
-use Rattle.curve.specs.Words.{within, Words}
+use Rattle.curve.specs.Words.{within}
 use Rattle.curve.proofs.DemandWords.{words}
 
 pub shut_has_floor : (m : Meaning) → Laws m → (floor : ℕ) (b : Books) → lawful b ≡ true → within m floor (capacity_inside b.units) ≡ false → ltb 0 floor ≡ true

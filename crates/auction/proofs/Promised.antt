@@ -18,7 +18,7 @@ use Rattle.auction.proofs.Closings.{CloseOf, close_of, in_then, floor_then, deci
 use Rattle.auction.proofs.Ledgers.{ledger, enrolled_said, gone_said, years_said, round_said}
 use Rattle.auction.proofs.Moves.{first_yes}
 use Rattle.auction.proofs.Settlements.{settlement_of}
-use Rattle.auction.proofs.Soundness.{Sound, sound_if_agrees, ranked_so, exit_now, InRound, in_round, round_out}
+use Rattle.auction.proofs.Soundness.{Sound, sound_if_agrees, ranked_so, exit_now, InRound, round_out}
 use Rattle.auction.proofs.Strikes.{striking}
 use Rattle.book.specs.declared.terms.Application.{Application}
 use Rattle.book.specs.declared.unit.Unit.{Unit as Row}

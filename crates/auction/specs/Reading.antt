@@ -9,6 +9,7 @@ use Rattle.auction.specs.Steps.{auction_question, own_clock}
 use Rattle.book.specs.Asked.{asked}
 use Rattle.clearing.specs.declared.ground.Ground.TheVariants.{AllFit}
 use Rattle.clearing.specs.declared.settlement.Settlement.{Settlement}
+use Rattle.clearing.specs.Finding.{settlement_at}
 use Rattle.curve.specs.Questions.{Question, first_no}
 
 -- a result, with the number of the question in the place of the refusal
@@ -22,7 +23,7 @@ read_out qs a = elim (first_no qs) [ None ↦ Ok a | Some n ↦ Err n ]
 
 -- the settlement of a round that clears; for one that does not, which no settled auction has, the floor and no exit
 abbrev pub settlement_of : State → Settlement
-settlement_of s = elim (priced s) [ None ↦ record { price = floor_of s; ground = AllFit; stop = 0 } | Some settled ↦ settled ]
+settlement_of s = elim (priced s) [ None ↦ settlement_at (floor_of s) AllFit 0 | Some settled ↦ settled ]
 
 abbrev pub settlement_read : State → Stamp → Result Settlement ℕ
 settlement_read s c = read_out (own_clock s Settled c ∷ []) (settlement_of s)

@@ -3,12 +3,11 @@ use Rattle.std.specs.Prelude.{ℕ, ◌-◌, Bool, true, false, ◌&&◌, List, O
 use Rattle.auction.specs.declared.clocks.Stage.{Stage}
 use Rattle.auction.specs.declared.clocks.Stage.TheVariants.{Enrolling, Open, Shut, Settled}
 use Rattle.auction.specs.declared.clocks.Stamp.{Stamp}
-use Rattle.book.specs.Books.{Books, no_books, capacity_inside, exits_up_to}
+use Rattle.book.specs.Books.{Books, capacity_inside, exits_up_to}
 use Rattle.book.specs.declared.terms.Terms.{Terms}
 use Rattle.clearing.specs.declared.settlement.Settlement.{Settlement}
 use Rattle.clearing.specs.Finding.{outcome_of}
 use Rattle.curve.specs.Meaning.{Meaning}
-use Rattle.curve.specs.Words.{within}
 use Rattle.ranking.specs.Ahead.{price_ahead}
 use Rattle.ranking.specs.declared.exits.Exit.{Exit}
 use Rattle.ranking.specs.Rankings.{ranking_of}

@@ -1,4 +1,5 @@
 // The auction: clocks, calls and rounds, over any demand curve and any tie order.
+#![tactic(auto)]
 
 mod auction;
 mod calls;

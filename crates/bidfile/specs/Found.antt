@@ -6,7 +6,7 @@ use Rattle.bidfile.specs.declared.records.CurveChoice.TheVariants.{Straight, Ste
 use Rattle.bidfile.specs.declared.records.Due.{Due}
 use Rattle.bidfile.specs.declared.records.OrderChoice.TheVariants.{ByRule, ByName}
 use Rattle.bidfile.specs.Items.{Item, terms, corner, unit, exit, years, step_back, close, size, selected, in_turn, may_end}
-use Rattle.bidfile.specs.Words.{words, word_at, kind_at, value_at}
+use Rattle.bidfile.specs.Words.{words, kind_at, value_at}
 use Rattle.curve.specs.Questions.{Question, first_no}
 
 -- each question by its number

@@ -1,9 +1,8 @@
 -- How records are written. Assumes nothing.
-use Rattle.std.specs.Prelude.{◌≡◌, ℕ, ◌+◌, ◌*◌, ◌/◌, ◌%◌, ◌<◌, true, List, [], ◌∷◌, ◌++◌, length, get_or, Some}
+use Rattle.std.specs.Prelude.{◌≡◌, ℕ, ◌+◌, ◌*◌, ◌/◌, ◌%◌, ◌<◌, true, List, [], ◌∷◌, ◌++◌, length, Some}
 use Rattle.std.specs.List.{flat_map, AllByRecursion as All}
 use Rattle.bidfile.specs.Found.{Found, found}
-use Rattle.bidfile.specs.Items.{Item, UnitItem, terms, corner, unit, exit, years, step_back, close, item_kind, size, curve_number, order_number, maker_number}
-use Rattle.bidfile.specs.Words.{word_at}
+use Rattle.bidfile.specs.Items.{Item, terms, corner, unit, exit, years, step_back, close, item_kind, size, curve_number, order_number, maker_number}
 
 -- the four bytes of a word, the highest first
 abbrev pub word_bytes : ℕ → List ℕ

@@ -1,4 +1,5 @@
 // Bid files: their words, their records, and the reader that hands the records out.
+#![tactic(auto)]
 
 mod fault;
 mod fields;

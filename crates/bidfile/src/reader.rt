@@ -79,7 +79,7 @@ pub struct Reader<'a> {
 
 impl<'a> Reader<'a> {
     pub fn new(file: &'a [u8]) -> Reader<'a>
-        ensures file { result.file.ghost_name ≡ file.entry.ghost_name }
+        ensures file { result.file ≡ file.entry }
         ensures bytes { result.file.now ≡ file.now }
         ensures start { result.at ≡ 0 }
     {
@@ -104,7 +104,7 @@ impl<'a> Reader<'a> {
     // Goes on behind a record of a kind.
     fn pass(&mut self, kind: u32)
         requires { self.old.at + size kind ≤ words self.old.file.now }
-        ensures file { self.new.file.ghost_name ≡ self.old.file.ghost_name }
+        ensures file { self.new.file ≡ self.old.file }
         ensures bytes { self.new.file.now ≡ self.old.file.now }
         ensures place { self.new.at ≡ self.old.at + size kind }
     {
@@ -114,7 +114,7 @@ impl<'a> Reader<'a> {
     // The next record, where those that are due are in turn, or none at the end.
     pub fn next(&mut self, due: Due) -> Result<Option<Placed<'a>>, FileFault>
         ensures answer { told result ≡ handed due (found self.old.file.now self.old.at) }
-        ensures file { self.new.file.ghost_name ≡ self.old.file.ghost_name }
+        ensures file { self.new.file ≡ self.old.file }
         ensures bytes { self.new.file.now ≡ self.old.file.now }
         ensures place { Moved self.old.file.now self.old.at self.new.at result }
         ensures laid { Laid self.old.file.now result }

@@ -6,7 +6,7 @@ use Rattle.std.proofs.lemmas.Bool.{cond_both, leb-true}
 use Rattle.book.specs.declared.unit.Unit.{Unit as Row}
 use Rattle.book.specs.Books.{Books, capacity_inside, leaving, exits_up_to}
 use Rattle.book.specs.Exits.{out_kw, capacity_out}
-use Rattle.book.specs.Lawful.{lawful_unit, lawful_units, lawful}
+use Rattle.book.specs.Lawful.{lawful_units, lawful}
 use Rattle.book.proofs.ModelLaws.{total_in_and_out}
 use Rattle.book.proofs.Rules.{lawful_keeps, unit_capacity, first_lawful, rest_lawful}
 use Rattle.curve.specs.Meaning.{ceiling}

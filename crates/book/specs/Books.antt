@@ -1,5 +1,5 @@
 -- What a book holds, and what each operation makes of it. Assumes nothing.
-use Rattle.std.specs.Prelude.{ℕ, ◌+◌, Bool, true, false, cond, List, [], ◌∷◌, ◌++◌, length, Some, None, Option, ◌==◌, nat_le, slice_index_or, slice_set}
+use Rattle.std.specs.Prelude.{ℕ, ◌+◌, true, false, cond, List, [], ◌∷◌, ◌++◌, Some, None, Option, ◌==◌, nat_le, slice_index_or, slice_set}
 use Rattle.book.specs.declared.class.Class.{Class}
 use Rattle.book.specs.declared.class.Class.TheVariants.{Existing, Refurbishing, NewBuild, DemandSide}
 use Rattle.book.specs.declared.class.Side.{Side}
@@ -7,7 +7,6 @@ use Rattle.book.specs.declared.class.Side.TheVariants.{Taker, Maker}
 use Rattle.book.specs.declared.entry.Entry.{Entry}
 use Rattle.book.specs.declared.entry.Entry.TheVariants.{Exit, Years}
 use Rattle.book.specs.declared.terms.Application.{Application}
-use Rattle.book.specs.declared.unit.Enrolment.{Enrolment}
 use Rattle.book.specs.declared.unit.Standing.{Standing}
 use Rattle.book.specs.declared.unit.Unit.{Unit as Row}
 use Rattle.ranking.specs.declared.exits.Exit.{Exit as Leaving}

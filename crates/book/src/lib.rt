@@ -1,4 +1,5 @@
 // The book of an auction: its units, the entries of the round, and the questions that are asked of them.
+#![tactic(auto)]
 
 mod book;
 mod class;

@@ -20,9 +20,13 @@ abbrev pub last_place : Meaning → Place → List Exit → Place
 last_place m at [] = at
 last_place m at (e ∷ es) = cond (fits m (place_after at e)) (last_place m (place_after at e) es) at
 
+-- the settlement of this price and ground, with so many exits awarded
+abbrev pub settlement_at : (price : ℕ) → (ground : Ground) → (stop : ℕ) → Settlement
+settlement_at p g k = record { price = p; ground = g; stop = k }
+
 -- the settlement that stops at a place
 abbrev pub stopped : Ground → Place → Settlement
-stopped ground at = record { price = at.price; ground = ground; stop = at.number }
+stopped g at = settlement_at at.price g at.number
 
 -- the ground where the sum at the last fit is exactly the demand
 abbrev pub exact_ground : Place → Ground

@@ -10,7 +10,7 @@ use ranking::Exit;
 // The place behind one more exit, if that exit fits.
 fn next_fit<C: Curve>(curve: &C, last: Place, exit: &Exit) -> Option<Place>
     requires { HasRoom last exit.now }
-    ensures { result ≡ next_fit (meaning curve.now) last exit.now }
+    ensures { result ≡ next_fit (C.meaning curve.now) last exit.now }
 {
     let next = last.after(exit);
     if curve.is_within(next.price, next.sum) {
@@ -23,7 +23,7 @@ fn next_fit<C: Curve>(curve: &C, last: Place, exit: &Exit) -> Option<Place>
 // The last place such that all exits up to it fit.
 pub(crate) fn last_fit<C: Curve>(curve: &C, floor: u32, capacity_in: u32, exits: &[Exit]) -> Place
     requires { Clearable floor capacity_in exits.now }
-    ensures value { result ≡ last_place (meaning curve.now) (first_place floor capacity_in) exits.now }
+    ensures value { result ≡ last_place (C.meaning curve.now) (first_place floor capacity_in) exits.now }
     ensures inside { result.number ≤ length exits.now }
     ensures behind { Clearable result.price result.sum (drop result.number exits.now) }
 {

@@ -1,4 +1,5 @@
 // Clearing: from a floor, the capacity in and the ranked exits to price, ground and stopping place, over any demand curve.
+#![tactic(auto)]
 
 mod ground;
 mod last;

@@ -18,7 +18,7 @@ fn dearer_by(last: Place, next: Place) -> i64
 // the sums come in order and are up to the ceiling.
 pub(crate) fn weigh<C: Curve>(curve: &C, last: Place, next: Place) -> Sign
     requires { (Bounded last) × ((Bounded next) × (last.sum ≤ next.sum)) }
-    ensures { sign_number result ≡ sign_of (weighed (meaning curve.now) last next) }
+    ensures { sign_number result ≡ sign_of (weighed (C.meaning curve.now) last next) }
 {
     match curve.weigh(last.sum, next.sum, dearer_by(last, next)) {
         Ok(sign) => sign,

@@ -26,7 +26,7 @@ fn exact_ground(last: Place) -> Ground
 // The settlement at the margin between the last place that fits and the next.
 fn at_margin<C: Curve>(curve: &C, last: Place, next: Place) -> Settlement
     requires { (Bounded last) × ((Bounded next) × (last.sum ≤ next.sum)) }
-    ensures { result ≡ at_margin (meaning curve.now) last next }
+    ensures { result ≡ at_margin (C.meaning curve.now) last next }
 {
     let sign = weigh(curve, last, next);
     if takes_next(last, next, sign) {
@@ -39,7 +39,7 @@ fn at_margin<C: Curve>(curve: &C, last: Place, next: Place) -> Settlement
 // The settlement, from the last place that fits.
 fn settle<C: Curve>(curve: &C, last: Place, exits: &[Exit]) -> Settlement
     requires { (last.number ≤ length exits.now) × (Clearable last.price last.sum (drop last.number exits.now)) }
-    ensures { result ≡ settled_after (meaning curve.now) last exits.now }
+    ensures { result ≡ settled_after (C.meaning curve.now) last exits.now }
 {
     if curve.is_exactly(last.price, last.sum) {
         return Settlement::at(last, exact_ground(last));
@@ -59,7 +59,7 @@ fn find_outcome<C: Curve>(
     exits: &[Exit],
 ) -> Option<Settlement>
     requires { Clearable floor capacity_in exits.now }
-    ensures { result ≡ found_outcome (meaning curve.now) floor capacity_in exits.now }
+    ensures { result ≡ found_outcome (C.meaning curve.now) floor capacity_in exits.now }
 {
     if !curve.is_within(floor, capacity_in) {
         return None;
@@ -77,12 +77,12 @@ pub fn clear<C: Curve>(
     exits: &[Exit],
 ) -> Option<Settlement>
     requires { Clearable floor capacity_in exits.now }
-    ensures value { result ≡ outcome_of (meaning curve.now) floor capacity_in exits.now }
-    ensures holds { Outcome (meaning curve.now) floor capacity_in exits.now result }
-    ensures only { OnlyOutcome (meaning curve.now) floor capacity_in exits.now result }
-    ensures near { WhereSettled (StopsNear (meaning curve.now) floor capacity_in exits.now) result }
+    ensures value { result ≡ outcome_of (C.meaning curve.now) floor capacity_in exits.now }
+    ensures holds { Outcome (C.meaning curve.now) floor capacity_in exits.now result }
+    ensures only { OnlyOutcome (C.meaning curve.now) floor capacity_in exits.now result }
+    ensures near { WhereSettled (StopsNear (C.meaning curve.now) floor capacity_in exits.now) result }
     ensures awards { WhereSettled (AwardsBelow exits.now) result }
-    ensures best { WhereSettled (Best (meaning curve.now) floor capacity_in exits.now) result }
+    ensures best { WhereSettled (Best (C.meaning curve.now) floor capacity_in exits.now) result }
 {
     find_outcome(curve, floor, capacity_in, exits)
 }

@@ -1,7 +1,7 @@
 -- What the layers above may use of `within` and `exactly` follows from a curve's laws.
-use Rattle.std.proofs.Common.{◌≡◌, ℕ, ◌-◌, ◌*◌, ◌<◌, ◌≤◌, true, false, eqb, leb, ◌⊎◌, ⊎_elim, arith}
+use Rattle.std.proofs.Common.{◌≡◌, ℕ, ◌<◌, ◌≤◌, true, false, ◌⊎◌, ⊎_elim, arith}
 use Rattle.std.proofs.lemmas.Bool.Decides.{nat_tests}
-use Rattle.curve.specs.Meaning.{Meaning, Laws, area_between, ceiling}
+use Rattle.curve.specs.Meaning.{Meaning, Laws, ceiling}
 use Rattle.curve.specs.Words.{within, exactly, Words}
 
 module _ (m : Meaning) (laws : Laws m) where

@@ -5,9 +5,9 @@ use Rattle.std.proofs.lemmas.Bool.{cond-true, cond-false, le-leb, lt-leb}
 use Rattle.std.specs.List.{AllByRecursion as All}
 use Rattle.curve.specs.declared.side.Side.{Side}
 use Rattle.curve.specs.Meaning.{Meaning}
-use Rattle.curve.specs.Outline.{Fraction, width, side_price, price, height, widths, column, demand_of, sum_to, outline}
+use Rattle.curve.specs.Outline.{Fraction, width, side_price, price, height, widths, column, sum_to, outline}
 use Rattle.curve.specs.Rules.{Mean, Along, AreaUnder}
-use Rattle.curve.specs.Falling.{Next, Falling}
+use Rattle.curve.specs.Falling.{Falling}
 use Rattle.curve.specs.SumsTo.{sum_none, sum_grows, sum_most, sum_along}
 
 -- a column of the first side, and one past it, with a factor

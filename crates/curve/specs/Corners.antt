@@ -1,5 +1,5 @@
 -- The questions put to the corners of a curve. Assumes nothing.
-use Rattle.std.specs.Prelude.{ℕ, ◌-◌, Bool, true, ◌&&◌, List, [], ◌∷◌, length, nat_le, nat_lt}
+use Rattle.std.specs.Prelude.{◌-◌, Bool, true, ◌&&◌, List, [], ◌∷◌, length, nat_le, nat_lt}
 use Rattle.curve.specs.declared.check.Pair.{Pair}
 use Rattle.curve.specs.declared.check.Pair.TheVariants.{Order, Gap}
 use Rattle.curve.specs.declared.corner.Corner.{Corner}

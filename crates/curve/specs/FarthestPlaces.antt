@@ -1,11 +1,11 @@
 -- Along sides that fall, a price reaches to the farthest place, fractions of a kW included, where the price is at least
 -- as high, rounded up.
-use Rattle.std.specs.Prelude.{◌≡◌, ℕ, ◌+◌, ◌-◌, ◌*◌, ◌<◌, ◌≤◌, true, false, cond, leb, List, [], ◌∷◌, nat_le, refl}
+use Rattle.std.specs.Prelude.{◌≡◌, ℕ, ◌+◌, ◌-◌, ◌*◌, ◌<◌, ◌≤◌, true, leb, List, [], ◌∷◌, nat_le, refl}
 use Rattle.std.proofs.Common.{⊎_elim, ap, sym, subst, mul-le-mul_right, mul-lt-mul_of_pos_right, mul-pos, arith}
 use Rattle.std.proofs.lemmas.Bool.{cases_lt, cond_both, cond-true, cond-false, le-leb, lt-leb, leb-true, leb-false}
 use Rattle.curve.specs.declared.side.Side.{Side}
 use Rattle.curve.specs.Outline.{Fraction, up, width, side_price, price, crossing, reach}
-use Rattle.curve.specs.Rules.{NoneBeyond, Farthest}
+use Rattle.curve.specs.Rules.{Farthest}
 use Rattle.curve.specs.Falling.{Next, Falling}
 use Rattle.curve.specs.Reaches.{crossing_least, reach_least}
 use Rattle.curve.specs.SideNumbers.{up_enough, up_least, not_beyond, still_above, at_most_start, none_above, price_at_crossing}

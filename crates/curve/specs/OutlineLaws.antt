@@ -1,5 +1,5 @@
 -- A curve whose sides fall keeps the laws; what is promised of the curves of accepted corners.
-use Rattle.std.specs.Prelude.{◌≡◌, ℕ, ◌+◌, ◌-◌, ◌*◌, ◌<◌, ◌≤◌, true, List, [], ◌∷◌, nat_le, refl}
+use Rattle.std.specs.Prelude.{◌≡◌, ℕ, ◌-◌, ◌*◌, ◌<◌, ◌≤◌, true, List, nat_le, refl}
 use Rattle.std.proofs.Common.{⊎_elim, ap, sym, subst, arith}
 use Rattle.std.proofs.lemmas.Bool.{cases_lt, cond-true, cond-false, le-leb, lt-leb}
 use Rattle.std.proofs.lemmas.Bool.Decides.{nat_tests}
@@ -7,7 +7,7 @@ use Rattle.curve.specs.declared.corner.Corner.{Corner}
 use Rattle.curve.specs.declared.side.Shape.{Shape}
 use Rattle.curve.specs.declared.side.Side.{Side}
 use Rattle.curve.specs.Corners.{accepted}
-use Rattle.curve.specs.Meaning.{Meaning, Laws, area_between, ceiling}
+use Rattle.curve.specs.Meaning.{Laws, area_between, ceiling}
 use Rattle.curve.specs.Outline.{origin, sides, price, reach, demand_of, widths, column, sum_to, outline}
 use Rattle.curve.specs.Rules.{Farthest, AreaUnder}
 use Rattle.curve.specs.AreaUnder.{area_under}

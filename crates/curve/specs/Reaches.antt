@@ -1,5 +1,5 @@
 -- How far a price reaches along sides that fall.
-use Rattle.std.specs.Prelude.{◌≡◌, ℕ, ◌+◌, ◌-◌, ◌*◌, ◌<◌, ◌≤◌, true, List, [], ◌∷◌, nat_le, refl}
+use Rattle.std.specs.Prelude.{◌≡◌, ℕ, ◌-◌, ◌*◌, ◌<◌, ◌≤◌, true, List, [], ◌∷◌, nat_le}
 use Rattle.std.proofs.Common.{ap, sym, subst, ◌∙◌, arith}
 use Rattle.std.proofs.lemmas.Bool.{cond_both, cond-true, cond-false, le-leb, lt-leb}
 use Rattle.std.proofs.lemmas.Bool.Decides.{nat_tests}
@@ -8,7 +8,7 @@ use Rattle.curve.specs.declared.side.Shape.{Shape}
 use Rattle.curve.specs.declared.side.Side.{Side}
 use Rattle.curve.specs.Corners.{accepted}
 use Rattle.curve.specs.Meaning.{ceiling}
-use Rattle.curve.specs.Outline.{side, sides_from, origin, sides, up, width, crossing, reach, demand_of, Sound}
+use Rattle.curve.specs.Outline.{side, sides_from, origin, sides, up, width, crossing, reach, Sound}
 use Rattle.curve.specs.Falling.{Next, Falling, Walking, walking_start, walking_next, walking_sound, side_ends, origin_zero}
 use Rattle.curve.specs.SideNumbers.{crosses_inside, up_falls}
 

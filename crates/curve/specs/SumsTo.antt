@@ -1,6 +1,6 @@
 -- Running sums.
 use Rattle.std.specs.Prelude.{◌≡◌, ℕ, zero, suc, ◌+◌, ◌-◌, ◌*◌, ◌<◌, ◌≤◌, refl}
-use Rattle.std.proofs.Common.{ap, sym, subst, mul-le-mul_right, add-suc, arith}
+use Rattle.std.proofs.Common.{ap, subst, add-suc, arith}
 use Rattle.curve.specs.declared.side.Side.{Side}
 use Rattle.curve.specs.Outline.{sum_to, height}
 

@@ -1,5 +1,5 @@
 -- What weighing answers: how the area between two places compares with a sum. Assumes nothing.
-use Rattle.std.specs.Prelude.{◌≡◌, ℕ, ◌≤◌, cond, ◌&&◌, List, [], ◌∷◌, ℤ, pos, negsuc, ◌*ℤ◌, Ok, Err, Result, int_lt, nat_le}
+use Rattle.std.specs.Prelude.{◌≡◌, ℕ, cond, ◌&&◌, List, [], ◌∷◌, ℤ, pos, negsuc, ◌*ℤ◌, Ok, Err, Result, int_lt, nat_le}
 use Rattle.curve.specs.declared.refusal.CurveRefusal.{CurveRefusal}
 use Rattle.curve.specs.declared.sign.Sign.{Sign}
 use Rattle.curve.specs.declared.sign.Sign.TheVariants.{Below, Level, Above}

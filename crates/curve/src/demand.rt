@@ -49,5 +49,5 @@ fn meets(demand: u32, capacity: u32) -> bool
 
 // What the layers above may use of `within` and `exactly`, for every curve that keeps the laws.
 pub fn words_hold<C: Curve>(curve: &C)
-    ensures { Words (meaning curve.now) }
+    ensures { Words (C.meaning curve.now) }
 {}

@@ -1,4 +1,5 @@
 // Demand curves: the interface that the auction is written over, and the two curves that are built.
+#![tactic(auto)]
 
 mod check;
 mod corner;

@@ -17,6 +17,7 @@ use Rattle.book.specs.declared.terms.Application.{Application}
 use Rattle.clearing.specs.declared.ground.Ground.{Ground}
 use Rattle.clearing.specs.declared.ground.Ground.TheVariants.{AllFit, NextTaken, NextLeft}
 use Rattle.clearing.specs.declared.settlement.Settlement.{Settlement}
+use Rattle.clearing.specs.Finding.{settlement_at}
 use Rattle.curve.specs.Questions.{first_no}
 use Rattle.ranking.specs.Ahead.{rule_ahead}
 use Rattle.ranking.specs.declared.roll.RollRow.{RollRow}
@@ -80,7 +81,7 @@ abbrev pub figures : ℕ → ℕ → Figures
 figures in_kw demand = record { capacity_in = in_kw; demand = demand }
 
 abbrev pub settled_at : ℕ → Ground → ℕ → Settlement
-settled_at price ground stop = record { price = price; ground = ground; stop = stop }
+settled_at price why stop = settlement_at price why stop
 
 abbrev pub answers_to : List Call → List Answer
 answers_to calls = map (λ t. t.answer) (played worked_start calls)

@@ -82,7 +82,7 @@ fn show_clearing<C: Curve>(
     due: Option<Settlement>,
 ) -> io::Result<()>
     requires { Clearable floor capacity_in exits.now }
-    ensures { OnOk result (CountedFor (outcome_of (meaning curve.now) floor capacity_in exits.now ≡ due) tally.old tally.new) }
+    ensures { OnOk result (CountedFor (outcome_of (C.meaning curve.now) floor capacity_in exits.now ≡ due) tally.old tally.new) }
 {
     let outcome = clear(curve, floor, capacity_in, exits);
     let agrees = is_due(outcome, due);

@@ -67,7 +67,7 @@ fn show_demand<C: Curve>(
     price: u32,
     due: u32,
 ) -> io::Result<()>
-    ensures { OnOk result (CountedFor ((meaning curve.now).demand price ≡ due) tally.old tally.new) }
+    ensures { OnOk result (CountedFor ((C.meaning curve.now).demand price ≡ due) tally.old tally.new) }
 {
     let demand = curve.demand(price);
     let agrees = demand == due;
@@ -101,7 +101,7 @@ fn show_weighing<C: Curve>(
     to: u32,
     due: Sign,
 ) -> io::Result<()>
-    ensures { OnOk result (CountedFor (FoundSo (meaning curve.now) from to due) tally.old tally.new) }
+    ensures { OnOk result (CountedFor (FoundSo (C.meaning curve.now) from to due) tally.old tally.new) }
 {
     let answer = curve.weigh(from, to, 3_600_000);
     let (word, agrees) = match answer {

@@ -34,7 +34,7 @@ line_text (Round round top floor inside demand) =
     ++ (codes " IN " ++ (decimal inside
     ++ (codes " DEMAND " ++ decimal demand))))))))
 line_text (Refused question place) = codes "REFUSED " ++ (decimal question ++ (codes " WORD " ++ decimal place))
-line_text (Cleared price ground) = codes "CLEARED " ++ (decimal price ++ (codes " GROUND " ++ decimal (ground_number ground)))
+line_text (Cleared price why) = codes "CLEARED " ++ (decimal price ++ (codes " GROUND " ++ decimal (ground_number why)))
 line_text (Award name capacity years) =
     codes "AWARD " ++ (name_text name ++ (codes " " ++ (decimal capacity ++ (codes " " ++ decimal years))))
 line_text (Fault layer question place) =

@@ -1,4 +1,5 @@
 // Orders as an interface, the exit ranking over any tie order, the order of the roll, and the one ordered list.
+#![tactic(auto)]
 
 mod exits;
 mod list;

@@ -1,10 +1,9 @@
 -- What is selected keeps the laws.
-use Rattle.std.proofs.Common.{◌≡◌, Bool, true, false, cond, ◌&&◌, leb, List, [], ◌∷◌, None, refl, arith}
+use Rattle.std.proofs.Common.{◌≡◌, true, List, [], ◌∷◌, None, refl, arith}
 use Rattle.bidfile.specs.declared.records.CurveChoice.{CurveChoice}
-use Rattle.bidfile.specs.declared.records.CurveChoice.TheVariants.{Straight, Stepped}
 use Rattle.bidfile.specs.declared.records.OrderChoice.{OrderChoice}
 use Rattle.bidfile.specs.declared.records.OrderChoice.TheVariants.{ByRule, ByName}
-use Rattle.curve.specs.Corners.{corner_questions, accepted}
+use Rattle.curve.specs.Corners.{corner_questions}
 use Rattle.curve.specs.declared.corner.Corner.{Corner}
 use Rattle.curve.specs.Meaning.{Laws as CurveLaws}
 use Rattle.curve.specs.Questions.{Question, first_no, all_yes}

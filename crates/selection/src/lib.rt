@@ -1,4 +1,5 @@
 // The demand curve and the order of ties that a bid file selects.
+#![tactic(auto)]
 
 mod curves;
 mod demand;

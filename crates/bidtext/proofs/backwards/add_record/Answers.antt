@@ -8,7 +8,7 @@ pub returns : goal.returns
 returns c =
     let old = string_bytes c.args.text.now in
     let line = line_text (item_of c.args.«record») in
-    c.in-ok-push.ensures.bytes
-    ∙ ap (λ (l : List ℕ). l ++ encode 10) (c.in-ok-push-str.ensures.bytes ∙ ap (λ (l : List ℕ). old ++ l) (c.as-str.ensures.value ∙ c.in-ok-line.ensures))
+    c.in_ok-push.ensures.bytes
+    ∙ ap (λ (l : List ℕ). l ++ encode 10) (c.in_ok-push_str.ensures.bytes ∙ ap (λ (l : List ℕ). old ++ l) (c.as_str.ensures.value ∙ c.in_ok-line.ensures))
     ∙ append_assoc old line (encode 10)
     ∙ ap (λ (l : List ℕ). old ++ (line ++ l)) (c.push.ensures.ascii (omega arith))

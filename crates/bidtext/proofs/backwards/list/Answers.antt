@@ -16,5 +16,5 @@ loop-read-preserved c =
     let at = c.loop-read.reader.at in
     let read = c.in-Ok.ensures in
     let answer = subst (λ (o : Option Placed). told (Ok o) ≡ handed_any (found bytes at)) c.in-Some.is read.answer in
-    let place = subst (λ (o : Option Placed). Moved bytes at c.next-record.new.reader.at (Ok o)) c.in-Some.is read.place in
-    listing_more c.args.file.now bytes at _ c.loop-read.invariant c.in-Some.placed _ _ _ answer read.bytes place c.in-ok-add-record.ensures
+    let place = subst (λ (o : Option Placed). Moved bytes at c.next_record.new.reader.at (Ok o)) c.in-Some.is read.place in
+    listing_more c.args.file.now bytes at _ c.loop-read.invariant c.in-Some.placed _ _ _ answer read.bytes place c.in_ok-add_record.ensures

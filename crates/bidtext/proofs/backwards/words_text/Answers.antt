@@ -14,7 +14,7 @@ returns-in-Ok c =
     let file = c.args.file.now in
     let asked = c.in-Ok.ensures.refusal ∙ ap (λ (b : List ℕ). first_no (length_questions b)) c.new-reader.ensures.bytes in
     let value = subst (λ (k : List Item × Option (ℕ × ℕ)). IfOk c.list.result (λ l. listed_said l ≡ with_text [] k)) (ap (λ (o : Option ℕ). length_kept o file) asked) c.list.ensures in
-    record { value = value; back = text_back c.layout-holds.ensures file c.list.result value }
+    record { value = value; back = text_back c.layout_holds.ensures file c.list.result value }
 
 pub returns-in-Err : goal.returns-in-Err
 unfolding file_kept
@@ -26,4 +26,4 @@ returns-in-Err c =
     ap (λ (t : List ℕ). (t, Some (fault_of fault))) c.new-text.ensures.bytes
     ∙ ap (λ (p : ℕ). ([], Some (fault_number fault, p))) c.in-Err.ensures.place
     ∙ ap (λ (o : Option ℕ). with_text [] (length_kept o file)) asked in
-    record { value = value; back = text_back {E = AllocError} c.layout-holds.ensures file (Ok (record { text = c.new-text.result; fault = Some fault })) value }
+    record { value = value; back = text_back {E = AllocError} c.layout_holds.ensures file (Ok (record { text = c.new-text.result; fault = Some fault })) value }

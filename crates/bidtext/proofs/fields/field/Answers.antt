@@ -6,12 +6,12 @@ use Rattle.std.proofs.lemmas.List.{get_or-drop}
 
 pub loop-passed-preserved : goal.loop-passed-preserved
 loop-passed-preserved c =
-    c.rest-of-rest.ensures ∙ ap after c.loop-passed.invariant ∙ passed_more (fields c.args.line.now) c.loop-passed.-passed
+    c.rest_of-rest.ensures ∙ ap after c.loop-passed.invariant ∙ passed_more (fields c.args.line.now) c.loop-passed._passed
 
 pub returns : goal.returns
 returns c =
-    let all : c.loop-passed.-passed + 0 ≡ c.args.place = omega arith in
-    c.first-field.ensures
+    let all : c.loop-passed._passed + 0 ≡ c.args.place = omega arith in
+    c.first_field.ensures
     ∙ ap (λ (fs : List (List ℕ)). field_at fs 0) c.loop-passed.invariant
-    ∙ get_or-drop c.loop-passed.-passed (fields c.args.line.now) 0 []
+    ∙ get_or-drop c.loop-passed._passed (fields c.args.line.now) 0 []
     ∙ ap (field_at (fields c.args.line.now)) all

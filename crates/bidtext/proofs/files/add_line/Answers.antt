@@ -6,11 +6,11 @@ use Rattle.bidtext.specs.Files.{listed}
 use Rattle.bidtext.specs.RoundTrip.{own_item, line_said, Fitting}
 use Rattle.bidtext.proofs.files.add_line.Goals as goal
 
-pub returns-in-Ok-push-record : goal.returns-in-Ok-push-record
-returns-in-Ok-push-record c =
+pub returns-in-Ok-push_record : goal.returns-in-Ok-push_record
+returns-in-Ok-push_record c =
     let item = own_item c.in-Some.«record» in (
       item ∷ [],
       ap (λ (r : Result (Option OwnRecord) Expected). listed (line_said r)) (sym c.in-Ok.ensures.value ∙ ap (λ (o : Option OwnRecord). Ok o) c.in-Some.is),
       (subst (λ (o : Option OwnRecord). Fitting (Ok o)) c.in-Some.is c.in-Ok.ensures.fits, tt),
-      c.in-Ok-push-record.ensures ∙ ap (λ (l : List ℕ). vec_items c.args.words.now ++ l) (sym (append-nil (layout item))),
+      c.in-Ok-push_record.ensures ∙ ap (λ (l : List ℕ). vec_items c.args.words.now ++ l) (sym (append-nil (layout item))),
     )

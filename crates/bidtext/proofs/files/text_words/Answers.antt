@@ -19,12 +19,12 @@ loop-fault-preserved c =
 pub returns-in-Err : goal.returns-in-Err
 returns-in-Err c =
     let text = c.args.text.now in
-    let value = faulty text c.loop-fault.number c.loop-fault.rest.now _ c.loop-fault.invariant c.count-end.result (vec_items c.add-line.new.words) c.in-Err.fault c.count-end.ensures.count c.in-Err.ensures in
+    let value = faulty text c.loop-fault.number c.loop-fault.rest.now _ c.loop-fault.invariant c.count-end.result (vec_items c.add_line.new.words) c.in-Err.fault c.count-end.ensures.count c.in-Err.ensures in
     record { value = value; back = text_trip text (Err c.in-Err.fault) value }
 
 pub returns-then-end-rest : goal.returns-then-end-rest
 returns-then-end-rest c =
     let text = c.args.text.now in
     let added = c.in-Ok.ensures in
-    let value = last text c.loop-fault.number c.loop-fault.rest.now _ c.loop-fault.invariant c.layout-holds.ensures c.count-end.result _ added.0 c.count-end.ensures.count c.if-end-rest.true added.1 added.2 added.3 in
-    record { value = value; back = text_trip text (Ok c.add-line.new.words) value }
+    let value = last text c.loop-fault.number c.loop-fault.rest.now _ c.loop-fault.invariant c.layout_holds.ensures c.count-end.result _ added.0 c.count-end.ensures.count c.if-end-rest.true added.1 added.2 added.3 in
+    record { value = value; back = text_trip text (Ok c.add_line.new.words) value }

@@ -6,8 +6,8 @@ use Rattle.bidtext.proofs.layouts.push_record.Goals as goal
 
 pub returns-in-Terms : goal.returns-in-Terms
 returns-in-Terms c =
-    subst (λ (r : OwnRecord). IfOk c.push-terms.result (λ _. vec_items c.push-terms.new.words ≡ vec_items c.args.words.now ++ layout (own_item r))) (sym c.in-Terms.is) c.push-terms.ensures
+    subst (λ (r : OwnRecord). IfOk c.push_terms.result (λ _. vec_items c.push_terms.new.words ≡ vec_items c.args.words.now ++ layout (own_item r))) (sym c.in-Terms.is) c.push_terms.ensures
 
 pub returns-in-Unit : goal.returns-in-Unit
 returns-in-Unit c =
-    subst (λ (r : OwnRecord). IfOk c.push-unit.result (λ _. vec_items c.push-unit.new.words ≡ vec_items c.args.words.now ++ layout (own_item r))) (sym c.in-Unit.is) c.push-unit.ensures
+    subst (λ (r : OwnRecord). IfOk c.push_unit.result (λ _. vec_items c.push_unit.new.words ≡ vec_items c.args.words.now ++ layout (own_item r))) (sym c.in-Unit.is) c.push_unit.ensures

@@ -9,7 +9,7 @@ pub returns : goal.returns
 returns c =
     let u = c.args.unit in
     let old = vec_items c.args.words.now in
-    let same : (c.head-first.result ∷ (u.class ∷ (c.maker-number-side.result ∷ (u.years ∷ (u.random ∷ []))))) ≡ words_of (own_item (own.Unit u)) = cc in
-    c.in-ok-extend-from-slice.ensures.items
-    ∙ ap (λ (l : List ℕ). l ++ u.name) (c.in-ok-push-words.ensures ∙ ap (λ (ws : List ℕ). old ++ flat_map word_bytes ws) same)
+    let same : (c.head-first.result ∷ (u.class ∷ (c.maker_number-side.result ∷ (u.years ∷ (u.random ∷ []))))) ≡ words_of (own_item (own.Unit u)) = cc in
+    c.in_ok-extend_from_slice.ensures.items
+    ∙ ap (λ (l : List ℕ). l ++ u.name) (c.in_ok-push_words.ensures ∙ ap (λ (ws : List ℕ). old ++ flat_map word_bytes ws) same)
     ∙ append_assoc old (flat_map word_bytes (words_of (own_item (own.Unit u)))) u.name

@@ -5,7 +5,7 @@ use Rattle.bidtext.proofs.layouts.push_words.Goals as goal
 
 pub loop-value-preserved : goal.loop-value-preserved
 loop-value-preserved c =
-    joined_next word_bytes c.args.values.now c.loop-value.value-index _ _ _ (omega arith) c.in-ok-push-word.ensures c.loop-value.invariant
+    joined_next word_bytes c.args.values.now c.loop-value.value-index _ _ _ (omega arith) c.in_ok-push_word.ensures c.loop-value.invariant
 
 pub returns : goal.returns
 returns c = joined_done word_bytes c.args.values.now c.loop-value.value-index _ _ (omega arith) c.loop-value.invariant

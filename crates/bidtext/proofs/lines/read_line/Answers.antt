@@ -24,20 +24,20 @@ answered line r e =
       fits = subst Fitting (sym e) (read_fits line);
     }
 
-pub returns-then-is-empty : goal.returns-then-is-empty
+pub returns-then-is_empty : goal.returns-then-is_empty
 unfolding line_record
-returns-then-is-empty c =
+returns-then-is_empty c =
     let a = answered c.args.line.now (Ok None) (search rules) in
     record { value = a.value; back = a.back; fits = a.fits }
 
-pub returns-in-err-record : goal.returns-in-err-record
+pub returns-in_err-record : goal.returns-in_err-record
 unfolding line_record
-returns-in-err-record c =
+returns-in_err-record c =
     let a = answered c.args.line.now _ (search rules) in
     record { value = a.value; back = a.back; fits = a.fits }
 
 pub returns : goal.returns
 unfolding line_record
 returns c =
-    let a = answered c.args.line.now (Ok (Some c.in-ok-record.«record»)) (search rules) in
+    let a = answered c.args.line.now (Ok (Some c.in_ok-record.«record»)) (search rules) in
     record { value = a.value; back = a.back; fits = a.fits }

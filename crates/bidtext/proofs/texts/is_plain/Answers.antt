@@ -12,6 +12,6 @@ pub returns-then-marks-ge1 : goal.returns-then-marks-ge1
 returns-then-marks-ge1 c =
     let name = c.args.name.now in
     let some : 1 ≤ marks name = omega (arith, c.count-marks.ensures.count) in
-    c.admits-all.ensures
+    c.admits_all.ensures
     ∙ ap (every Space) (take_rest name c.count-marks.result ∙ ap (λ (i : ℕ). drop i name) c.count-marks.ensures.count)
-    ∙ sym (plain_rest (is_hexed name) (leb 1 (marks name)) (every Space (drop (marks name) name)) (sym c.if-is-hexed.ensures) (le-leb 1 (marks name) some))
+    ∙ sym (plain_rest (is_hexed name) (leb 1 (marks name)) (every Space (drop (marks name) name)) (sym c.if-is_hexed.ensures) (le-leb 1 (marks name) some))

@@ -6,12 +6,12 @@ use Rattle.std.proofs.lemmas.Bool.{cond-true, cond-false}
 use Rattle.std.proofs.lemmas.Str.{IsUtf8-from_ascii}
 use Rattle.std.specs.List.{flat_map}
 
-pub returns-then-not-is-plain : goal.returns-then-not-is-plain
+pub returns-then-not-is_plain : goal.returns-then-not-is_plain
 unfolding name_word
-returns-then-not-is-plain c =
+returns-then-not-is_plain c =
     let name = c.args.name.now in
-    subst (λ (w : List ℕ). IfOk c.hex-text.result (λ s. string_bytes s ≡ w))
-    (sym (cond-false (is_plain name) (take (marks name) name) (codes "hex:" ++ flat_map hex_pair name) (sym c.if-not-is-plain.ensures))) c.hex-text.ensures
+    subst (λ (w : List ℕ). IfOk c.hex_text.result (λ s. string_bytes s ≡ w))
+    (sym (cond-false (is_plain name) (take (marks name) name) (codes "hex:" ++ flat_map hex_pair name) (sym c.if-not-is_plain.ensures))) c.hex_text.ensures
 
 pub unreachable-requires : goal.unreachable-requires
 unreachable-requires c =
@@ -21,7 +21,7 @@ pub returns : goal.returns
 unfolding name_word
 returns c =
     let name = c.args.name.now in
-    subst (λ (w : List ℕ). IfOk c.from-str.result (λ s. string_bytes s ≡ w))
+    subst (λ (w : List ℕ). IfOk c.from_str.result (λ s. string_bytes s ≡ w))
     (c.in-Ok.ensures.cases.0
     ∙ ap (λ (n : ℕ). take n name) c.count.ensures.count
-    ∙ sym (cond-true (is_plain name) (take (marks name) name) (codes "hex:" ++ flat_map hex_pair name) (sym c.if-not-is-plain.ensures))) c.from-str.ensures.ok
+    ∙ sym (cond-true (is_plain name) (take (marks name) name) (codes "hex:" ++ flat_map hex_pair name) (sym c.if-not-is_plain.ensures))) c.from_str.ensures.ok

@@ -6,4 +6,4 @@ use Rattle.bidtext.proofs.texts.record_text.Goals as goal
 
 pub returns-in-Terms : goal.returns-in-Terms
 returns-in-Terms c =
-    subst (λ (r : Record). IfOk c.terms-text.result (λ s. string_bytes s ≡ line_text (item_of r))) (sym c.in-Terms.is) c.terms-text.ensures
+    subst (λ (r : Record). IfOk c.terms_text.result (λ s. string_bytes s ≡ line_text (item_of r))) (sym c.in-Terms.is) c.terms_text.ensures

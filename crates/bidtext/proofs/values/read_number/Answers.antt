@@ -2,9 +2,9 @@ use Rattle.std.proofs.Common.{rules}
 use Rattle.bidtext.specs.Values.{number_in}
 use Rattle.bidtext.proofs.values.read_number.Goals as goal
 
-pub returns-then-not-is-numeral : goal.returns-then-not-is-numeral
+pub returns-then-not-is_numeral : goal.returns-then-not-is_numeral
 unfolding number_in
-returns-then-not-is-numeral c = search rules
+returns-then-not-is_numeral c = search rules
 
 pub returns-then-number-lt-LIMIT : goal.returns-then-number-lt-LIMIT
 unfolding number_in

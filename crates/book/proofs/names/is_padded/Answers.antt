@@ -4,8 +4,8 @@ use Rattle.std.proofs.lemmas.Bool.Decides.{nat_tests}
 use Rattle.book.proofs.NameLaws.{padded_on}
 use Rattle.book.proofs.names.is_padded.Goals as goal
 
-pub loop-b-preserved-then-is-name-character : goal.loop-b-preserved-then-is-name-character
-loop-b-preserved-then-is-name-character c =
+pub loop-b-preserved-then-is_name_character : goal.loop-b-preserved-then-is_name_character
+loop-b-preserved-then-is_name_character c =
     let e = at_drop_more (padded_on c.loop-b.ended) c.args.name c.loop-b.b-index 0 (omega arith) in
     grind (arith, nat_tests)
 

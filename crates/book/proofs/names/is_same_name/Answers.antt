@@ -7,7 +7,7 @@ use Rattle.book.proofs.names.is_same_name.Goals as goal
 pub returns : goal.returns
 returns c =
     ⊎_elim
-    (λ lt. let e = names_differ c.args.a c.args.b _ (omega arith) (omega arith) (c.first-difference.ensures.found lt) in grind (arith, nat_tests))
+    (λ lt. let e = names_differ c.args.a c.args.b _ (omega arith) (omega arith) (c.first_difference.ensures.found lt) in grind (arith, nat_tests))
     (λ le.
-    let e = names_same c.args.a c.args.b (omega arith) (λ k below. c.first-difference.ensures.before k (omega arith)) in grind (arith, nat_tests))
-    (cases_lt c.first-difference.result 8)
+    let e = names_same c.args.a c.args.b (omega arith) (λ k below. c.first_difference.ensures.before k (omega arith)) in grind (arith, nat_tests))
+    (cases_lt c.first_difference.result 8)

@@ -2,17 +2,17 @@ use Rattle.std.proofs.Common.{arith}
 use Rattle.clearing.proofs.Walk.{walking_here, walking_next, walking_stop, walking_end, walking_left, next_room}
 use Rattle.clearing.proofs.last.last_fit.Goals as goal
 
-pub next-fit-requires : goal.next-fit-requires
-next-fit-requires g c =
+pub next_fit-requires : goal.next_fit-requires
+next_fit-requires g c =
     let w = walking_here _ _ _ _ _ _ c.loop-exit-test.true c.loop-exit.invariant in
-    (omega (arith, w.number-is), next_room _ _ _ _ w.clearable)
+    (omega (arith, w.number_is), next_room _ _ _ _ w.clearable)
 
-pub returns-in-default : goal.returns-in-default
-returns-in-default g c =
+pub returns-in_default : goal.returns-in_default
+returns-in_default g c =
     let w = walking_here _ _ _ _ _ _ c.loop-exit-test.true c.loop-exit.invariant in
     record {
-      value = walking_stop _ _ _ _ _ _ w c.in-default.ensures;
-      inside = omega (arith, w.number-is);
+      value = walking_stop _ _ _ _ _ _ w c.in_default.ensures;
+      inside = omega (arith, w.number_is);
       behind = walking_left _ _ _ _ _ c.loop-exit.invariant;
     }
 

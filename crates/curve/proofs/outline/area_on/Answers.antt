@@ -1,8 +1,8 @@
 use Rattle.std.proofs.Common.{◌+◌, ◌*◌, ◌≤◌, mul-le-mul, arith}
 use Rattle.curve.proofs.outline.area_on.Goals as goal
 
-pub overflow-mul-result-2 : goal.overflow-mul-result-2
-overflow-mul-result-2 c =
+pub overflow_mul-result-2 : goal.overflow_mul-result-2
+overflow_mul-result-2 c =
     let start : c.from.result ≤ 10000 = omega arith in
     let wide : c.from-width.result ≤ 200000000 = omega arith in
     let far : c.from-4.result ≤ 200000000 = omega arith in
@@ -11,8 +11,8 @@ overflow-mul-result-2 c =
     let m = mul-le-mul far high in
     omega arith
 
-pub overflow-add-result : goal.overflow-add-result
-overflow-add-result c =
+pub overflow_add-result : goal.overflow_add-result
+overflow_add-result c =
     let start : c.from.result ≤ 10000 = omega arith in
     let wide : c.from-width.result ≤ 200000000 = omega arith in
     let far : c.from-4.result ≤ 200000000 = omega arith in

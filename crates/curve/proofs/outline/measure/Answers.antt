@@ -10,8 +10,8 @@ loop-corner-init c =
     subst (λ (o : Corner). Walked c.args.shape c.args.corners.now c.args.place 0 o c.args.corners.now) (sym c.origin-last.ensures)
     (walked_start c.args.shape c.args.corners.now c.args.place c.requires.0)
 
-pub area-on-requires : goal.area-on-requires
-area-on-requires c =
+pub area_on-requires : goal.area_on-requires
+area_on-requires c =
     let w = next_corner (Walked c.args.shape c.args.corners.now c.args.place c.loop-corner.twice c.loop-corner.last) c.args.corners.now _ c.loop-corner-test.true c.loop-corner.invariant in
     let s = c.between-side.result in
     let is = c.between-side.ensures in
@@ -20,16 +20,16 @@ area-on-requires c =
 pub returns-then-place-side : goal.returns-then-place-side
 returns-then-place-side c =
     let w = next_corner (Walked c.args.shape c.args.corners.now c.args.place c.loop-corner.twice c.loop-corner.last) c.args.corners.now _ c.loop-corner-test.true c.loop-corner.invariant in
-    walked_here _ _ _ _ _ _ _ w c.between-side.result c.between-side.ensures c.area-on.result c.requires.1 c.if-place-side.true
-    c.area-on.ensures.width c.area-on.ensures.parts
+    walked_here _ _ _ _ _ _ _ w c.between-side.result c.between-side.ensures c.area_on.result c.requires.1 c.if-place-side.true
+    c.area_on.ensures.width c.area_on.ensures.parts
 
-pub twice-area-twice-requires : goal.twice-area-twice-requires
-twice-area-twice-requires c =
+pub twice_area-twice-requires : goal.twice_area-twice-requires
+twice_area-twice-requires c =
     let w = next_corner (Walked c.args.shape c.args.corners.now c.args.place c.loop-corner.twice c.loop-corner.last) c.args.corners.now _ c.loop-corner-test.true c.loop-corner.invariant in
     walked_sound _ _ _ _ _ _ _ w c.between-side.result c.between-side.ensures
 
-pub overflow-add-twice : goal.overflow-add-twice
-overflow-add-twice c =
+pub overflow_add-twice : goal.overflow_add-twice
+overflow_add-twice c =
     let w = next_corner (Walked c.args.shape c.args.corners.now c.args.place c.loop-corner.twice c.loop-corner.last) c.args.corners.now _ c.loop-corner-test.true c.loop-corner.invariant in
     let small = walked_small _ _ _ _ _ _ _ w c.between-side.result c.between-side.ensures in
     let before = walked_from _ _ _ _ _ _ _ w c.between-side.result c.between-side.ensures in
@@ -39,7 +39,7 @@ overflow-add-twice c =
 pub loop-corner-preserved : goal.loop-corner-preserved
 loop-corner-preserved c =
     let w = next_corner (Walked c.args.shape c.args.corners.now c.args.place c.loop-corner.twice c.loop-corner.last) c.args.corners.now _ c.loop-corner-test.true c.loop-corner.invariant in
-    walked_next _ _ _ _ _ _ _ w c.between-side.result c.between-side.ensures _ c.twice-area-twice.ensures.value c.if-place-side.false
+    walked_next _ _ _ _ _ _ _ w c.between-side.result c.between-side.ensures _ c.twice_area-twice.ensures.value c.if-place-side.false
 
 pub returns : goal.returns
 returns c =

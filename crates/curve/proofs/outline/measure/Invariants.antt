@@ -1,5 +1,4 @@
 use Rattle.std.proofs.Common.{drop}
-use Rattle.curve.specs.Outline.{sides}
 use Rattle.curve.proofs.Measuring.{Walked}
 use Rattle.curve.proofs.outline.measure.Given as goal
 

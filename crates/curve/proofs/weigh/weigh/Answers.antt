@@ -1,9 +1,8 @@
-use Rattle.std.proofs.Common.{◌≡◌, ◌*◌, ◌≤◌, ℤ, pos, ◌*ℤ◌, ap, ◌∙◌, arith, w64, SFits, rules}
+use Rattle.std.proofs.Common.{arith, w64, SFits, rules}
 use mir.Syntax.{w128}
 use Rattle.std.proofs.lemmas.Int.{to_z-of_z}
 use Rattle.std.proofs.lemmas.Bool.Decides.{nat_tests}
 use Rattle.curve.specs.Outline.{origin, sides, widths, column, sum_to}
-use Rattle.curve.specs.Weighing.{compared}
 use Rattle.curve.specs.Columns.{widths_some}
 use Rattle.curve.proofs.Compared.{areas_compared}
 use Rattle.curve.specs.Falling.{walking_start}
@@ -19,8 +18,8 @@ returns c =
     let low = c.measure-low.ensures in
     let high = c.measure-high.ensures in
     let areas = sum_grows (column ss) c.args.from c.args.to c.if-from-to.false in
-    let gap : SFits w128 c.gap.result = record { sfits = c.gap.type-inv } in
-    let goal : SFits w128 c.goal.result = record { sfits = c.goal.type-inv } in
+    let gap : SFits w128 c.gap.result = record { sfits = c.gap.type_inv } in
+    let goal : SFits w128 c.goal.result = record { sfits = c.goal.type_inv } in
     let sum = to_z-of_z w64 c.args.sum c.ranges.sum in
     let same = areas_compared c.measure-low.result.parts c.measure-high.result.parts c.measure-low.result.width c.measure-high.result.width
     (sum_to (column ss) c.args.from) (sum_to (column ss) c.args.to) (widths ss) c.args.sum

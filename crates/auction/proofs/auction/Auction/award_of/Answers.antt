@@ -5,7 +5,7 @@ use Rattle.book.specs.Views.{books}
 use Rattle.auction.proofs.Awarding.{unit_priced}
 use Rattle.auction.proofs.auction.Auction.award_of.Goals as goal
 
-pub is-awarded-requires : goal.is-awarded-requires
-is-awarded-requires g c =
+pub is_awarded-requires : goal.is_awarded-requires
+is_awarded-requires g c =
     subst (λ (u : Row). out_if_priced u.standing ≡ true) (sym c.unit-row.ensures)
     (unit_priced (books c.args.self.now.book) c.args.unit c.args.self.now.book.kept c.requires)

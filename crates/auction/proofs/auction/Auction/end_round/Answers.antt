@@ -5,7 +5,7 @@ use Rattle.auction.proofs.Above.{above_closed}
 use Rattle.auction.proofs.Floors.{shut_has_floor}
 use Rattle.auction.proofs.auction.Auction.end_round.Goals as goal
 
-pub invariant-of-self-2 : goal.invariant-of-self-2
-invariant-of-self-2 g c =
+pub invariant_of-self-2 : goal.invariant_of-self-2
+invariant_of-self-2 g c =
     let was = c.args.self.now in
-    (was.low, (was.falls, (was.counted, (shut_has_floor _ (g.met.C.Curve.keeps was.curve) _ (books was.book) was.book.kept (sym c.clears.ensures ∙ c.if-clears.false), (ap (book_above (was.top - was.spread)) c.close.ensures ∙ above_closed _ (books was.book) was.above, tt)))))
+    record { low = was.low; falls = was.falls; counted = was.counted; left = shut_has_floor _ (g.met.C.Curve.keeps was.curve) _ (books was.book) was.book.kept (sym c.clears.ensures ∙ c.if-clears.false); above = ap (book_above (was.top - was.spread)) c.close.ensures ∙ above_closed _ (books was.book) was.above }

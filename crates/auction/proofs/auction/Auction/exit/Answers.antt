@@ -4,7 +4,7 @@ use Rattle.book.specs.Views.{books}
 use Rattle.auction.proofs.Above.{above_with_exit, exit_price_above}
 use Rattle.auction.proofs.auction.Auction.exit.Goals as goal
 
-pub invariant-of-self : goal.invariant-of-self
-invariant-of-self g c =
+pub invariant_of-self : goal.invariant_of-self
+invariant_of-self g c =
     let was = c.args.self.now in
-    (was.low, (was.falls, (was.counted, (was.left, (ap (book_above (was.top - was.spread)) c.put-out.ensures ∙ above_with_exit _ (books was.book) c.args.unit c.args.price (exit_price_above _ _ (books was.book) c.args.unit c.args.price c.in-ok-exit-questions.ensures) was.above, tt)))))
+    record { low = was.low; falls = was.falls; counted = was.counted; left = was.left; above = ap (book_above (was.top - was.spread)) c.put_out.ensures ∙ above_with_exit _ (books was.book) c.args.unit c.args.price (exit_price_above _ _ (books was.book) c.args.unit c.args.price c.in_ok-exit_questions.ensures) was.above }

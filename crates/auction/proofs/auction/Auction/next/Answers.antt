@@ -6,15 +6,15 @@ use Rattle.auction.proofs.Above.{above_lower}
 use Rattle.auction.proofs.Floors.{own_shut_floor}
 use Rattle.auction.proofs.auction.Auction.next.Goals as goal
 
-pub invariant-of-self : goal.invariant-of-self
-invariant-of-self g c =
+pub invariant_of-self : goal.invariant_of-self
+invariant_of-self g c =
     let was = c.args.self.now in
     let opens = c.following-following.result in
     let numbered : opens.number ≡ was.round + 1 = ap (λ (r : Round). r.number) c.following-following.ensures in
     let capped : opens.top ≡ was.top - was.spread = ap (λ (r : Round). r.top) c.following-following.ensures in
     let some : 0 < was.top - was.spread
-    = own_shut_floor (state g.C.Curve.meaning g.O.Order.ahead was) c.args.clock.stamp c.in-default.ensures was.left in
+    = own_shut_floor (state g.C.Curve.meaning g.O.Order.ahead was) c.args.clock.stamp c.in_default.ensures was.left in
     let low : was.top ≤ 10000 = was.low in
     let counted : was.round + was.top ≤ 10001 = was.counted in
     let falls : 1 ≤ was.spread = was.falls in
-    (omega arith, (falls, (omega arith, (refl, (above_lower (was.top - was.spread) (opens.top - was.spread) (books was.book) (omega arith) was.above, tt)))))
+    record { low = omega arith; falls = falls; counted = omega arith; left = refl; above = above_lower (was.top - was.spread) (opens.top - was.spread) (books was.book) (omega arith) was.above }

@@ -15,11 +15,11 @@ returns-then-self-count c =
 
 pub returns : goal.returns
 returns c =
-    let taken = c.in-ok-placed.ensures.taken in
+    let taken = c.in_ok-placed.ensures.taken in
     record {
-      answer = c.in-ok-placed.ensures.answer;
+      answer = c.in_ok-placed.ensures.answer;
       file = search rules;
       bytes = search rules;
-      place = moves c.args.self.now.file.now c.args.self.now.at c.pass.new.self.at c.in-ok-placed.placed (omega arith) taken (search rules);
-      laid = lies c.args.self.now.file.now c.args.self.now.at c.in-ok-placed.placed taken;
+      place = moves c.args.self.now.file.now c.args.self.now.at c.pass.new.self.at c.in_ok-placed.placed (omega arith) taken (search rules);
+      laid = lies c.args.self.now.file.now c.args.self.now.at c.in_ok-placed.placed taken;
     }

@@ -6,19 +6,19 @@ use Rattle.book.specs.Asked.{named}
 use Rattle.book.proofs.ModelLaws.{unread}
 use Rattle.book.proofs.book.Book.is_named.Goals as goal
 
-pub returns-then-is-named : goal.returns-then-is-named
-returns-then-is-named c =
-    let e = at_drop_more (λ (us : List Row). named us c.args.name) c.as-slice-unit-items.result.now c.loop-unit.unit-index unread (omega arith) in
-    let value = c.as-slice-unit-items.ensures.value in
+pub returns-then-is_named : goal.returns-then-is_named
+returns-then-is_named c =
+    let e = at_drop_more (λ (us : List Row). named us c.args.name) c.as_slice-unit-items.result.now c.loop-unit.unit-index unread (omega arith) in
+    let value = c.as_slice-unit-items.ensures.value in
     grind (arith, nat_tests)
 
 pub loop-unit-preserved : goal.loop-unit-preserved
 loop-unit-preserved c =
-    let e = at_drop_more (λ (us : List Row). named us c.args.name) c.as-slice-unit-items.result.now c.loop-unit.unit-index unread (omega arith) in
+    let e = at_drop_more (λ (us : List Row). named us c.args.name) c.as_slice-unit-items.result.now c.loop-unit.unit-index unread (omega arith) in
     grind (arith, nat_tests)
 
 pub returns : goal.returns
 returns c =
-    let e = at_drop_all (λ (us : List Row). named us c.args.name) c.as-slice-unit-items.result.now c.loop-unit.unit-index (omega arith) in
-    let value = c.as-slice-unit-items.ensures.value in
+    let e = at_drop_all (λ (us : List Row). named us c.args.name) c.as_slice-unit-items.result.now c.loop-unit.unit-index (omega arith) in
+    let value = c.as_slice-unit-items.ensures.value in
     grind (arith, nat_tests)

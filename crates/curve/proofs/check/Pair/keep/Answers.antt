@@ -1,4 +1,4 @@
-use Rattle.std.proofs.Common.{◌≡◌, ℕ, ◌-◌, ◌<◌, Bool, List, [], ◌∷◌, length, get_or, take, drop, refl, ap, ◌∙◌, arith, take_all}
+use Rattle.std.proofs.Common.{◌≡◌, ◌-◌, Bool, List, [], ◌∷◌, length, get_or, take, drop, refl, ap, ◌∙◌, arith, take_all}
 use Rattle.curve.specs.declared.corner.Corner.{Corner}
 use Rattle.curve.specs.Corners.{neighbours_from, neighbours, pair_keeps}
 use Rattle.curve.proofs.check.Pair.keep.Goals as goal
@@ -10,4 +10,4 @@ first_and_rest test (c ∷ cs) d = ap (neighbours_from test c) (take_all (length
 
 pub returns-in-len1-up : goal.returns-in-len1-up
 returns-in-len1-up c =
-    c.keep-from.ensures ∙ first_and_rest (pair_keeps c.args.self) c.args.corners.now (record { quantity = 0; price = 0 })
+    c.keep_from.ensures ∙ first_and_rest (pair_keeps c.args.self) c.args.corners.now (record { quantity = 0; price = 0 })

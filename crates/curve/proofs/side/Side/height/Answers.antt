@@ -1,8 +1,8 @@
-use Rattle.std.proofs.Common.{◌+◌, ◌*◌, ◌≤◌, mul-le-mul, arith, rules}
+use Rattle.std.proofs.Common.{◌≤◌, mul-le-mul, arith, rules}
 use Rattle.curve.proofs.side.Side.height.Goals as goal
 
-pub overflow-add-result : goal.overflow-add-result
-overflow-add-result c =
+pub overflow_add-result : goal.overflow_add-result
+overflow_add-result c =
     let start : c.from.result ≤ 10000 = omega arith in
     let after : c.from-2.result ≤ 200000000 = omega arith in
     let end : c.from-3.result ≤ 10000 = omega arith in

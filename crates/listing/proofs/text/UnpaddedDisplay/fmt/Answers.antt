@@ -8,13 +8,13 @@ loop-byte-init g c = written_start g.W.Write.write_str_gives c.args.f.now c.args
 pub loop-byte-preserved : goal.loop-byte-preserved
 loop-byte-preserved g c plain =
     let w = c.loop-byte.invariant plain in
-    written_next g.W.Write.write_str_gives c.args.f.now c.args.self.now.name c.loop-byte.byte-index c.loop-byte.f c.from.result c.write-char.new.self
-    (omega arith) c.from.ensures (sym c.if-is-padding.ensures) w (c.in-ok-write-char.ensures.writes w.put.plain (refl {a = true}))
+    written_next g.W.Write.write_str_gives c.args.f.now c.args.self.now.name c.loop-byte.byte-index c.loop-byte.f c.from.result c.write_char.new.self
+    (omega arith) c.from.ensures (sym c.if-is_padding.ensures) w (c.in_ok-write_char.ensures.writes w.put.plain (refl {a = true}))
 
-pub returns-then-is-padding-clause-writes : goal.returns-then-is-padding-clause-writes
-returns-then-is-padding-clause-writes g c plain ok =
+pub returns-then-is_padding-clause-writes : goal.returns-then-is_padding-clause-writes
+returns-then-is_padding-clause-writes g c plain ok =
     let w = c.loop-byte.invariant plain in
-    written_padded g.W.Write.write_str_gives c.args.f.now c.args.self.now.name c.loop-byte.byte-index c.loop-byte.f (omega arith) (sym c.if-is-padding.ensures) w
+    written_padded g.W.Write.write_str_gives c.args.f.now c.args.self.now.name c.loop-byte.byte-index c.loop-byte.f (omega arith) (sym c.if-is_padding.ensures) w
 
 pub returns-after-loop-byte-clause-writes : goal.returns-after-loop-byte-clause-writes
 returns-after-loop-byte-clause-writes g c plain ok =

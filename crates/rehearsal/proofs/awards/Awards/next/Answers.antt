@@ -14,4 +14,4 @@ pub returns : goal.returns
 unfolding awards_left
 returns c =
     let was = c.args.self.now in
-    rows_next was.rows was.given was.count _ _ (omega arith) was.fit c.award-line.ensures
+    rows_next was.rows was.given was.count _ _ (omega arith) was.fit c.award_line.ensures

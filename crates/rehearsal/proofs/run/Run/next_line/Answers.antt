@@ -5,10 +5,10 @@ use Rattle.rehearsal.specs.Left.{lines_ahead}
 use Rattle.rehearsal.proofs.RunSteps.{nothing_ahead}
 use Rattle.rehearsal.proofs.run.Run.next_line.Goals as goal
 
-pub returns-then-is-over : goal.returns-then-is-over
-returns-then-is-over c =
+pub returns-then-is_over : goal.returns-then-is_over
+returns-then-is_over c =
     let here = c.loop-line.self in
     let fs = found here.reader.file.now here.reader.at in
-    let none = nothing_ahead here.progress fs (sym c.is-over.ensures ∙ c.if-is-over.true) in
-    let handed = c.in-default.ensures in
+    let none = nothing_ahead here.progress fs (sym c.is_over.ensures ∙ c.if-is_over.true) in
+    let handed = c.in_default.ensures in
     (sym c.loop-line.invariant ∙ ap (λ (w : List Line). w ++ lines_ahead here.progress fs) handed.0 ∙ none, ap (λ (w : List Line). w ++ lines_ahead here.progress fs) handed.1 ∙ none)

@@ -9,8 +9,8 @@ use Rattle.rehearsal.proofs.Advances.{sound_both}
 use Rattle.rehearsal.proofs.RunSteps.{went_lines, falls, fault_lines, over_falls}
 use Rattle.rehearsal.proofs.run.Run.step.Goals as goal
 
-pub invariant-of-self-in-Err : goal.invariant-of-self-in-Err
-invariant-of-self-in-Err c =
+pub invariant_of-self-in-Err : goal.invariant_of-self-in-Err
+invariant_of-self-in-Err c =
     let end = c.advance.new.reader.at in
     let n = words c.advance.new.reader.file.now in
     (subst (λ (p : Coded). sound p end n ≡ true) (sym c.replace-progress.ensures.after) (sound_both coded.Over end n refl refl), tt)
@@ -21,7 +21,7 @@ returns-in-Ok c =
     let bytes = was.reader.file.now in
     let after = c.advance.new.reader in
     record {
-      lines = went_lines _ _ _ c.in-Ok.progress was.progress c.replace-progress.result bytes after.file.now after.at was.reader.at c.put-all.ensures c.advance.ensures.bytes c.in-Ok.ensures.lines c.replace-progress.ensures.value c.requires.0;
+      lines = went_lines _ _ _ c.in-Ok.progress was.progress c.replace-progress.result bytes after.file.now after.at was.reader.at c.put_all.ensures c.advance.ensures.bytes c.in-Ok.ensures.lines c.replace-progress.ensures.value c.requires.0;
       falls = falls (is_over (progress_of c.in-Ok.progress)) (is_over (progress_of was.progress)) (words after.file.now) (words bytes) after.at was.reader.at (ap words c.advance.ensures.bytes) c.requires.1 c.in-Ok.ensures.place.1;
     }
 
@@ -31,6 +31,6 @@ returns-in-Err c =
     let bytes = was.reader.file.now in
     let after = c.advance.new.reader in
     record {
-      lines = fault_lines _ _ c.in-Err.fault c.replace-progress.new.dest was.progress c.replace-progress.result bytes after.file.now after.at was.reader.at c.put-fault.ensures c.replace-progress.ensures.after c.in-Err.ensures.lines c.replace-progress.ensures.value c.requires.0;
+      lines = fault_lines _ _ c.in-Err.fault c.replace-progress.new.dest was.progress c.replace-progress.result bytes after.file.now after.at was.reader.at c.put_fault.ensures c.replace-progress.ensures.after c.in-Err.ensures.lines c.replace-progress.ensures.value c.requires.0;
       falls = over_falls c.replace-progress.new.dest (is_over (progress_of was.progress)) (words after.file.now) (words bytes) after.at was.reader.at c.replace-progress.ensures.after c.requires.1;
     }

@@ -8,8 +8,8 @@ use Rattle.rehearsal.proofs.Advances.{sound_both}
 use Rattle.rehearsal.proofs.RunSteps.{short_file, listed_fault, listed_lines}
 use Rattle.rehearsal.proofs.run.lines.rehearse.Goals as goal
 
-pub invariant-of-result : goal.invariant-of-result
-invariant-of-result c = (sound_both coded.Over _ _ refl refl, tt)
+pub invariant_of-result : goal.invariant_of-result
+invariant_of-result c = (sound_both coded.Over _ _ refl refl, tt)
 
 pub returns-in-Err : goal.returns-in-Err
 returns-in-Err c =
@@ -17,13 +17,13 @@ returns-in-Err c =
     let listed = listed_fault c.args.file.now reader.file.now c.in-Err.fault c.line-line.result _ (found reader.file.now reader.at) c.new-reader.ensures.bytes c.in-Err.ensures.refusal c.in-Err.ensures.place c.line-line.ensures c.new.ensures in
     record { listing = listed; market = subst (Market c.args.file.now) (sym listed) (market c.args.file.now) }
 
-pub invariant-of-result-2 : goal.invariant-of-result-2
-invariant-of-result-2 c =
+pub invariant_of-result-2 : goal.invariant_of-result-2
+invariant_of-result-2 c =
     let reader = c.new-reader.result in
-    (sound_both (coded.Fresh c.args.storage) reader.at (words reader.file.now) (short_file reader.file.now c.in-default.ensures.refusal) refl, tt)
+    (sound_both (coded.Fresh c.args.storage) reader.at (words reader.file.now) (short_file reader.file.now c.in_default.ensures.refusal) refl, tt)
 
 pub returns : goal.returns
 returns c =
     let reader = c.new-reader.result in
-    let listed = listed_lines c.args.file.now reader.file.now c.args.storage _ reader.at c.new-reader.ensures.bytes c.in-default.ensures.refusal c.new-reader.ensures.start c.new-2.ensures in
+    let listed = listed_lines c.args.file.now reader.file.now c.args.storage _ reader.at c.new-reader.ensures.bytes c.in_default.ensures.refusal c.new-reader.ensures.start c.new-2.ensures in
     record { listing = listed; market = subst (Market c.args.file.now) (sym listed) (market c.args.file.now) }

@@ -6,8 +6,8 @@ use Rattle.rehearsal.specs.Chosen.{auction_state}
 use Rattle.rehearsal.proofs.Clocks.{begun_facts, own_stamp}
 use Rattle.rehearsal.proofs.stages.Enrolment.begin.Goals as goal
 
-pub invariant-of-result : goal.invariant-of-result
-invariant-of-result c =
+pub invariant_of-result : goal.invariant_of-result
+invariant_of-result c =
     let was = c.args.self in
     begun_facts (auction_state was.auction) was.clock.stamp _ _ _ _ was.own was.capped was.spaced c.in-Ok.ensures.step
 

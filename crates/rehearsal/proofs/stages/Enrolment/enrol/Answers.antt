@@ -5,8 +5,8 @@ use Rattle.rehearsal.specs.Chosen.{auction_state}
 use Rattle.rehearsal.proofs.Clocks.{enrolled_keeps}
 use Rattle.rehearsal.proofs.stages.Enrolment.enrol.Goals as goal
 
-pub invariant-of-self : goal.invariant-of-self
-invariant-of-self c =
+pub invariant_of-self : goal.invariant_of-self
+invariant_of-self c =
     let was = c.args.self.now in
     let K : State → Type 0 = λ t. (current t Enrolling was.clock.stamp ≡ true) × ((was.top ≡ t.top) × ((was.spread ≡ t.spread) × Unit {0})) in
     let held : K (auction_state was.auction) = (was.own, (was.capped, (was.spaced, tt))) in

@@ -27,4 +27,4 @@ pub returns : goal.returns
 returns c =
     let was = c.args.self in
     let s = auction_state was.auction in
-    elim c.match-said.branch [ in-Exit w ↦ out_same _ _ _ _ w.self-is w.line-is ∙ exit_called c.args.place s was.clock.stamp w.in-Exit.exit _ was.own w.exit-line.ensures ∙ ap (λ (x : Record). called c.args.place s (item_of x)) (sym w.in-Exit.is) | in-Years w ↦ out_same _ _ _ _ w.self-is w.line-is ∙ years_called c.args.place s was.clock.stamp w.in-Years.years _ was.own w.years-line.ensures ∙ ap (λ (x : Record). called c.args.place s (item_of x)) (sym w.in-Years.is) | in-StepBack w ↦ out_same _ _ _ _ w.self-is w.line-is ∙ back_called c.args.place s was.clock.stamp _ was.own w.step-back-line.ensures ∙ ap (λ (x : Record). called c.args.place s (item_of x)) (sym w.in-StepBack.is) ]
+    elim c.match-said.branch [ in-Exit w ↦ out_same _ _ _ _ w.self-is w.line-is ∙ exit_called c.args.place s was.clock.stamp w.in-Exit.exit _ was.own w.exit-line.ensures ∙ ap (λ (x : Record). called c.args.place s (item_of x)) (sym w.in-Exit.is) | in-Years w ↦ out_same _ _ _ _ w.self-is w.line-is ∙ years_called c.args.place s was.clock.stamp w.in-Years.years _ was.own w.years-line.ensures ∙ ap (λ (x : Record). called c.args.place s (item_of x)) (sym w.in-Years.is) | in-StepBack w ↦ out_same _ _ _ _ w.self-is w.line-is ∙ back_called c.args.place s was.clock.stamp _ was.own w.step_back-line.ensures ∙ ap (λ (x : Record). called c.args.place s (item_of x)) (sym w.in-StepBack.is) ]

@@ -6,16 +6,16 @@ use Rattle.rehearsal.specs.Chosen.{auction_state}
 use Rattle.rehearsal.proofs.Clocks.{Gives, shut_facts, settled_facts, close_never_refused}
 use Rattle.rehearsal.proofs.stages.OpenRound.close.Goals as goal
 
-pub invariant-of-shut : goal.invariant-of-shut
-invariant-of-shut c =
+pub invariant_of-shut : goal.invariant_of-shut
+invariant_of-shut c =
     let was = c.args.self in
     let s = auction_state was.auction in
     let t = auction_state c.close.new.self in
     shut_facts s was.clock.stamp t c.in-Ok.figures c.in-Shut.clock.stamp was.round was.top was.spread was.own was.counted was.capped was.spaced
     (subst (λ (d : Closed). Gives (closed s was.clock.stamp) t (close_answer c.in-Ok.figures d)) c.in-Shut.is c.in-Ok.ensures.step)
 
-pub invariant-of-result : goal.invariant-of-result
-invariant-of-result c =
+pub invariant_of-result : goal.invariant_of-result
+invariant_of-result c =
     let was = c.args.self in
     let s = auction_state was.auction in
     let t = auction_state c.close.new.self in (

@@ -4,9 +4,9 @@ use Rattle.rehearsal.specs.Chosen.{auction_state}
 use Rattle.rehearsal.proofs.Clocks.{Facts, went_back_keeps}
 use Rattle.rehearsal.proofs.stages.OpenRound.step_back.Goals as goal
 
-pub invariant-of-self : goal.invariant-of-self
-invariant-of-self c =
+pub invariant_of-self : goal.invariant_of-self
+invariant_of-self c =
     let was = c.args.self.now in
     let K : State → Type 0 = Facts Open was.clock.stamp was.round was.top was.spread in
     let held : K (auction_state was.auction) = (was.own, (was.counted, (was.capped, (was.spaced, tt)))) in
-    went_back_keeps K (auction_state was.auction) was.clock.stamp _ c.step-back-result.ensures held held
+    went_back_keeps K (auction_state was.auction) was.clock.stamp _ c.step_back-result.ensures held held

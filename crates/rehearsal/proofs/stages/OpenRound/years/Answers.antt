@@ -4,8 +4,8 @@ use Rattle.rehearsal.specs.Chosen.{auction_state}
 use Rattle.rehearsal.proofs.Clocks.{Facts, served_keeps}
 use Rattle.rehearsal.proofs.stages.OpenRound.years.Goals as goal
 
-pub invariant-of-self : goal.invariant-of-self
-invariant-of-self c =
+pub invariant_of-self : goal.invariant_of-self
+invariant_of-self c =
     let was = c.args.self.now in
     let K : State → Type 0 = Facts Open was.clock.stamp was.round was.top was.spread in
     let held : K (auction_state was.auction) = (was.own, (was.counted, (was.capped, (was.spaced, tt)))) in

@@ -10,5 +10,5 @@ returns c =
     let begins = c.begun-session.result in
     record {
       auction = c.begun-session.ensures;
-      line = finish_lines (session_state was) (session_stage was) (session_stage begins) _ (stage_is was) (ap (λ s. s.stage) (sym c.begun-session.ensures) ∙ stage_is begins) c.unsettled-line-line.ensures;
+      line = finish_lines (session_state was) (session_stage was) (session_stage begins) _ (stage_is was) (ap (λ s. s.stage) (sym c.begun-session.ensures) ∙ stage_is begins) c.unsettled_line-line.ensures;
     }

@@ -10,8 +10,8 @@ pub call-session-requires : goal.call-session-requires
 call-session-requires c =
     let was = c.args.self in
     let item = item_of c.args.said in
-    let begins = c.begun-for.result in
-    let now-stage : (begun_for (session_state was) item (session_stage was)).stage ≡ session_stage begins = ap (λ s. s.stage) (sym c.begun-for.ensures) ∙ stage_is begins in
+    let begins = c.begun_for.result in
+    let now-stage : (begun_for (session_state was) item (session_stage was)).stage ≡ session_stage begins = ap (λ s. s.stage) (sym c.begun_for.ensures) ∙ stage_is begins in
     (subst (λ z. has_call z (item_kind item) ≡ true) now-stage (callable (session_state was) item (session_stage was) (stage_is was) c.requires.0), c.requires.1)
 
 pub returns : goal.returns
@@ -19,6 +19,6 @@ returns c =
     let was = c.args.self in
     let item = item_of c.args.said in
     record {
-      lines = hears c.args.place (session_state was) (session_state c.call-session.result.0) (session_state c.gone-on.result) item (session_stage was) (session_stage c.call-session.result.0) c.call-session.result.1 (stage_is was) c.requires.0 (c.call-session.ensures ∙ ap (λ z. called c.args.place z item) c.begun-for.ensures) (stage_is c.call-session.result.0) c.gone-on.ensures.state;
-      stage = c.gone-on.ensures.stage;
+      lines = hears c.args.place (session_state was) (session_state c.call-session.result.0) (session_state c.gone_on.result) item (session_stage was) (session_stage c.call-session.result.0) c.call-session.result.1 (stage_is was) c.requires.0 (c.call-session.ensures ∙ ap (λ z. called c.args.place z item) c.begun_for.ensures) (stage_is c.call-session.result.0) c.gone_on.ensures.state;
+      stage = c.gone_on.ensures.stage;
     }

@@ -6,12 +6,12 @@ use Rattle.rehearsal.specs.Chosen.{auction_state}
 use Rattle.rehearsal.proofs.Clocks.{Facts, went_on_facts, own_stamp}
 use Rattle.rehearsal.proofs.stages.ShutRound.next.Goals as goal
 
-pub invariant-of-result : goal.invariant-of-result
-invariant-of-result c =
+pub invariant_of-result : goal.invariant_of-result
+invariant_of-result c =
     let was = c.args.self in
     let after = auction_state c.next.new.self in
     let made = went_on_facts (auction_state was.auction) was.clock.stamp after c.in-Ok.clock.stamp was.round was.top was.spread was.own was.counted was.capped was.spaced c.in-Ok.ensures.step in
-    subst (λ top. Facts Open c.in-Ok.clock.stamp (was.round + 1) top was.spread after) (sym c.saturating-sub.ensures) made
+    subst (λ top. Facts Open c.in-Ok.clock.stamp (was.round + 1) top was.spread after) (sym c.saturating_sub.ensures) made
 
 pub returns : goal.returns
 unfolding after_next

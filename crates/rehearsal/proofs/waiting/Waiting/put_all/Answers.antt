@@ -9,7 +9,7 @@ use Rattle.rehearsal.proofs.waiting.Waiting.put_all.Goals as goal
 
 pub returns-in-Going : goal.returns-in-Going
 returns-in-Going c =
-    c.put-settlement.ensures
+    c.put_settlement.ensures
     ∙ ap (λ (l : Option Line). option_to_list l ++ session_lines c.in-Going.session) c.put.ensures.first
     ∙ ap (λ (ls : List Line). option_to_list c.args.line ++ ls) (session_lines_are c.in-Going.session)
     ∙ ap (λ (p : Coded). option_to_list c.args.line ++ progress_lines p) (sym c.in-Going.is)
