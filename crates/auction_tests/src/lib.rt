@@ -1,5 +1,6 @@
 // Tests of the auction at both sides of the edge of each question, in a crate of their own so that the auction is not
 // proved twice.
+#![tactic(auto)]
 
 #[cfg(test)]
 mod tests {

@@ -1,13 +1,10 @@
 -- The figures of the two curves, worked out.
-use Rattle.std.proofs.Common.{◌≡◌, ℕ, ◌*◌, ◌≤◌, pos, ◌*ℤ◌, refl, arith, lit≤}
+use Rattle.std.proofs.Common.{◌≡◌, ◌*◌, refl, arith, lit≤}
 use Rattle.std.proofs.lemmas.Bool.Decides.{nat_tests}
 use Rattle.curve.specs.OutlineLaws.{curve_farthest}
 use Rattle.curve.specs.declared.side.Shape.TheVariants.{Steps, Lines}
 use Rattle.curve.specs.declared.sign.Sign.TheVariants.{Below, Level, Above}
-use Rattle.curve.specs.Meaning.{Meaning, area_between}
-use Rattle.curve.specs.Outline.{sides}
-use Rattle.curve.specs.Rules.{AreaUnder}
-use Rattle.curve.specs.Weighing.{sign_number, compared}
+use Rattle.curve.specs.Meaning.{area_between}
 use Rattle.figures.specs.Curves.{worked_corners, Weighs, WorkedCurves}
 
 pub above : Weighs 20400 21400 Above

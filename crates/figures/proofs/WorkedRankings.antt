@@ -2,8 +2,8 @@
 use Rattle.std.proofs.Common.{List, [], ◌∷◌, rules}
 use Rattle.ranking.specs.Compares.{rule_laws, name_ties_laws, price_laws, roll_laws}
 use Rattle.ranking.proofs.Ranks.{ranking_stands}
-use Rattle.ranking.specs.Ahead.{rule_ahead, name_ahead, roll_ahead, price_ahead}
-use Rattle.ranking.specs.Rankings.{Distinct, Ranking, ranking_of}
+use Rattle.ranking.specs.Ahead.{rule_ahead, name_ahead, price_ahead}
+use Rattle.ranking.specs.Rankings.{Distinct, ranking_of}
 use Rattle.ranking.specs.declared.exits.Exit.{Exit}
 use Rattle.figures.specs.Rankings.{ash, bay, elm, yew, oak, fir, all_exits, roll_row, RankedByRule, RankedByName, WorkedRankings}
 

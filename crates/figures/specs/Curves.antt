@@ -1,13 +1,12 @@
 -- The worked curves, and what the rules say of them.
-use Rattle.std.specs.Prelude.{◌≡◌, ℕ, zero, suc, ◌+◌, ◌*◌, ◌≤◌, List, [], ◌∷◌, pos, ◌*ℤ◌, Some, None}
+use Rattle.std.specs.Prelude.{◌≡◌, ℕ, zero, suc, ◌+◌, ◌≤◌, List, [], ◌∷◌, pos, ◌*ℤ◌, Some, None}
 use Rattle.curve.specs.declared.corner.Corner.{Corner}
 use Rattle.curve.specs.declared.side.Shape.{Shape}
 use Rattle.curve.specs.declared.side.Shape.TheVariants.{Steps, Lines}
-use Rattle.curve.specs.declared.side.Side.{Side}
 use Rattle.curve.specs.declared.sign.Sign.{Sign}
 use Rattle.curve.specs.declared.sign.Sign.TheVariants.{Below, Level, Above}
 use Rattle.curve.specs.Corners.{corner_questions}
-use Rattle.curve.specs.Meaning.{Meaning, area_between, ceiling}
+use Rattle.curve.specs.Meaning.{Meaning, area_between}
 use Rattle.curve.specs.Outline.{sides, price}
 use Rattle.curve.specs.Questions.{first_no}
 use Rattle.curve.specs.Rules.{Farthest, AreaUnder}

@@ -1,4 +1,5 @@
 // Walks an auction clock down a demand curve, then shows the worked figures, each beside what it should be.
+#![tactic(auto)]
 
 mod auctions;
 mod clearings;

@@ -3,7 +3,6 @@ use Rattle.std.specs.Prelude.{ℕ}
 use Rattle.auction.specs.Steps.{auction_question}
 use Rattle.bidfile.specs.Found.{file_question}
 use Rattle.curve.specs.Questions.{question}
-use Rattle.listing.specs.declared.fault.AuctionFault.{AuctionFault}
 use Rattle.listing.specs.declared.fault.Fault.{Fault}
 use Rattle.listing.specs.declared.fault.Fault.TheVariants.{File, Auction}
 use Rattle.listing.specs.declared.fault.Layer.{Layer}

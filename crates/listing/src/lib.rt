@@ -1,4 +1,5 @@
 // The lines of a listing, and the faults that end a run.
+#![tactic(auto)]
 
 mod carried;
 mod fault;

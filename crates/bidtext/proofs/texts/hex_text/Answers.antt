@@ -4,7 +4,7 @@ use Rattle.bidtext.proofs.texts.hex_text.Goals as goal
 
 pub loop-byte-preserved : goal.loop-byte-preserved
 loop-byte-preserved c =
-    hexed_more c.args.name.now _ _ _ _ c.loop-byte.byte-index c.from.result c.from-in-loop-byte.result (omega arith) (omega (arith, c.ok.name c.loop-byte.byte-index))
+    hexed_more c.args.name.now _ _ _ _ c.loop-byte.byte-index c.from.result c.from-in-loop-byte.result (omega arith) (omega (arith, c.type_inv.name c.loop-byte.byte-index))
     (c.from.ensures ∙ c.hex_digit.ensures) (c.from-in-loop-byte.ensures ∙ c.hex_digit-in-loop-byte.ensures)
     c.in_ok-push.ensures.bytes c.in_ok-push-2.ensures.bytes c.loop-byte.invariant
 
