@@ -1,6 +1,6 @@
 -- What holds between an auction and the ledger of its kept turns.
 use Rattle.std.proofs.Common.{◌≡◌, ℕ, ◌+◌, ◌-◌, ◌<◌, ◌≤◌, Bool, true, false, eqb, List, [], ◌∷◌, ◌++◌, length, get_or, set, Some, None, sum_by, Option, sym, refl, ap, ◌∙◌, subst, ⊎_elim, arith}
-use Rattle.std.specs.List.{AllByRecursion as All}
+use Rattle.std.specs.List.{AllByRecursion}
 use Rattle.std.proofs.ByRecursion.{All-push, All-set, All-weaker, All-get_or}
 use Rattle.std.proofs.lemmas.List.{length-set, length_push, get_or-set_same, get_or-set_other, get_or_append_left, get_or_push, append-nil, append_assoc}
 use Rattle.std.proofs.lemmas.List.Sums.{sum_by_push}
@@ -49,16 +49,16 @@ pub record Agrees (start s : State) (l : Ledger) : Type 0 where
   pub floors : FloorAt s.stage s.top (floor_of s) (floor_after start.top start.spread (length l.closed))
   pub count : length s.book.units ≡ length l.enrolled
   pub each_unit : (n : ℕ) → n < length s.book.units → get_or s.book.units n no_unit ≡ said_unit l.gone l.years n (application_of l.enrolled n)
-  pub large : All (λ u. 1000 ≤ u.enrolled.capacity) s.book.units
+  pub large : AllByRecursion (λ u. 1000 ≤ u.enrolled.capacity) s.book.units
   pub total : total_enrolled s.book.units ≡ sum_by (λ a. a.capacity) l.enrolled
   pub most : total_enrolled s.book.units ≤ ceiling
   pub accounts : in_of s + sum_by (λ e. (application_of l.enrolled e.0).capacity) l.gone ≡ total_enrolled s.book.units
-  pub never_more : All (λ f. in_of s ≤ f.capacity_in) l.closed
-  pub out : All (OutIn s.book.units) l.gone
-  pub above_floor : All (λ e. floor_of s < e.1) l.gone
+  pub never_more : AllByRecursion (λ f. in_of s ≤ f.capacity_in) l.closed
+  pub out : AllByRecursion (OutIn s.book.units) l.gone
+  pub above_floor : AllByRecursion (λ e. floor_of s < e.1) l.gone
   pub rounds : l.gone ≡ l.earlier ++ l.round
-  pub earlier_above : All (λ e. s.top < e.1) l.earlier
-  pub round_most : All (λ e. e.1 ≤ s.top) l.round
+  pub earlier_above : AllByRecursion (λ e. s.top < e.1) l.earlier
+  pub round_most : AllByRecursion (λ e. e.1 ≤ s.top) l.round
 
 -- the exits that stand are of other units than one that is in
 out_kept : (us : List Row) (i : ℕ) (u : Row) → (get_or us i no_unit).standing.exit ≡ None → (e : ℕ × ℕ) → OutIn us e → OutIn (set us i u) e
@@ -135,8 +135,8 @@ begun_at s l h e = subst (λ (g : Stage). BegunAt g l) e h
 open_begun : (s : State) (l : Ledger) → s.stage ≡ Open → BegunAt s.stage l
 open_begun s l e = subst (λ (g : Stage). BegunAt g l) (sym e) tt
 
-pub all_none : {X : Type 0} (P : X → Type 0) (xs : List X) → xs ≡ [] → All P xs
-all_none P xs e = subst (All P) (sym e) tt
+pub all_none : {X : Type 0} (P : X → Type 0) (xs : List X) → xs ≡ [] → AllByRecursion P xs
+all_none P xs e = subst (AllByRecursion P) (sym e) tt
 
 enrols_more : (start s : State) (l : Ledger) (a : Application) (h : Enrols s a) → Agrees start s l → Agrees start (after s (enrolling a h)) (noted l (enrols a))
 enrols_more start s l a h g =

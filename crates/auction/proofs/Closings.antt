@@ -1,6 +1,6 @@
 -- Capacity in, and when an auction settles: what holds at each accepted Close.
 use Rattle.std.proofs.Common.{◌≡◌, ℕ, ◌+◌, ◌≤◌, Bool, true, ◌⊎◌, List, [], ◌∷◌, ◌++◌, length, sum_by, sym, refl, ap, ◌∙◌, subst, inl, inr, ⊎_elim, arith}
-use Rattle.std.specs.List.{AllByRecursion as All}
+use Rattle.std.specs.List.{AllByRecursion}
 use Rattle.std.proofs.lemmas.List.{length_push}
 use Rattle.auction.specs.declared.calls.Call.{Call}
 use Rattle.auction.specs.declared.calls.Figures.{Figures}
@@ -45,7 +45,7 @@ settled_turn s c e =
     let r = settled_move s m.move e in
     (m.saying_is ∙ r.0, m.state_is ∙ r.1)
 
-pub settled_stays : (s : State) (calls : List Call) → s.stage ≡ Settled → All (λ t. saying t ≡ refused) (played s calls) × (ended s calls ≡ s)
+pub settled_stays : (s : State) (calls : List Call) → s.stage ≡ Settled → AllByRecursion (λ t. saying t ≡ refused) (played s calls) × (ended s calls ≡ s)
 settled_stays s [] e = (tt, refl)
 settled_stays s (c ∷ calls) e =
     let r = settled_turn s c e in
@@ -152,10 +152,10 @@ module _ (start : State) (before later : List Turn) (f : Figures) (settled : Boo
       ∙ ap (λ (m : Meaning). m.demand (floor_of c.was)) c.agreed.curve_stays
       ∙ ap start.curve.demand floor_then
 
-  never_rises_then : All (λ g. f.capacity_in ≤ g.capacity_in) (closings before)
+  never_rises_then : AllByRecursion (λ g. f.capacity_in ≤ g.capacity_in) (closings before)
   never_rises_then =
-      subst (All (λ g. f.capacity_in ≤ g.capacity_in)) (sym (closings_kept before))
-      (subst (λ (n : ℕ). All (λ g. n ≤ g.capacity_in) l.closed) (sym in_then) c.agreed.never_more)
+      subst (AllByRecursion (λ g. f.capacity_in ≤ g.capacity_in)) (sym (closings_kept before))
+      (subst (λ (n : ℕ). AllByRecursion (λ g. n ≤ g.capacity_in) l.closed) (sym in_then) c.agreed.never_more)
 
   pub decided_then : settled ≡ within start.curve (closing_floor start.top start.spread before) f.capacity_in
   decided_then =
@@ -175,8 +175,8 @@ module _ (start : State) (before later : List Turn) (f : Figures) (settled : Boo
   pub settled_there : settled ≡ true → c.then.stage ≡ Settled
   settled_there is = ap (λ (z : State). z.stage) (c.closing.if_settled is)
 
-  pub refused_then : settled ≡ true → All (λ t. saying t ≡ refused) later
-  refused_then is = subst (All (λ t. saying t ≡ refused)) (sym c.later_is) (settled_stays c.then c.rest (settled_there is)).0
+  pub refused_then : settled ≡ true → AllByRecursion (λ t. saying t ≡ refused) later
+  refused_then is = subst (AllByRecursion (λ t. saying t ≡ refused)) (sym c.later_is) (settled_stays c.then c.rest (settled_there is)).0
 
   -- and the auction ends as it settled
   pub ends_so : settled ≡ true → end ≡ c.then

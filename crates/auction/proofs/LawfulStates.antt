@@ -1,7 +1,7 @@
 -- What every call keeps of an auction, whatever it was before: its units and entries are lawful, and its numbers are in their
 -- ranges. An auction just opened is lawful, and a lawful auction is sound.
 use Rattle.std.proofs.Common.{◌≡◌, ℕ, ◌+◌, ◌-◌, ◌<◌, ◌≤◌, Bool, true, false, ◌&&◌, leb, List, [], ◌∷◌, ◌++◌, length, get_or, set, Some, None, Option, sym, refl, ap, ◌∙◌, subst, ⊎_elim, arith}
-use Rattle.std.specs.List.{AllByRecursion as All}
+use Rattle.std.specs.List.{AllByRecursion}
 use Rattle.std.proofs.ByRecursion.{All-push, All-set, All-weaker, All-get_or}
 use Rattle.std.proofs.lemmas.List.{length-set, length_push, get_or-set_same, get_or-set_other}
 use Rattle.std.proofs.lemmas.Bool.{false≢true, cases_eq, and_parts, leb-true}
@@ -56,10 +56,10 @@ LawfulIn us (Years i former) = LawfulEntry us i former
 
 pub record LawfulBook (floor : ℕ) (b : Books) : Type 0 where
   pub count : length b.units ≤ 512
-  pub units : All (LawfulUnit floor) b.units
+  pub units : AllByRecursion (LawfulUnit floor) b.units
   pub most : total_enrolled b.units ≤ ceiling
   pub standing : length b.entries ≤ 1024
-  pub entries : All (LawfulIn b.units) b.entries
+  pub entries : AllByRecursion (LawfulIn b.units) b.entries
 
 pub record Lawful (s : State) : Type 0 where
   pub top_most : s.top ≤ top_price
@@ -93,7 +93,7 @@ entries_stay us i st here (Exit j former) h = entry_stays us i st here j former 
 entries_stay us i st here (Years j former) h = entry_stays us i st here j former h
 
 -- the book with another standing of a unit, and other entries that were lawful
-stands_so : (floor : ℕ) (b : Books) (i : ℕ) (st : Standing) (es : List Entry) → LawfulBook floor b → i < length b.units → LawfulStanding (get_or b.units i no_unit).enrolled.years st → Above floor (stood (get_or b.units i no_unit) st) → length es ≤ 1024 → All (LawfulIn (set b.units i (stood (get_or b.units i no_unit) st))) es → LawfulBook floor (record { units = set b.units i (stood (get_or b.units i no_unit) st); entries = es })
+stands_so : (floor : ℕ) (b : Books) (i : ℕ) (st : Standing) (es : List Entry) → LawfulBook floor b → i < length b.units → LawfulStanding (get_or b.units i no_unit).enrolled.years st → Above floor (stood (get_or b.units i no_unit) st) → length es ≤ 1024 → AllByRecursion (LawfulIn (set b.units i (stood (get_or b.units i no_unit) st))) es → LawfulBook floor (record { units = set b.units i (stood (get_or b.units i no_unit) st); entries = es })
 stands_so floor b i st es h here lawful above few entries =
     let us : List Row = b.units in
     let u : Row = stood (get_or us i no_unit) st in

@@ -1,6 +1,6 @@
 -- Clearing, and with it all that is promised of every list of calls.
 use Rattle.std.proofs.Common.{◌≡◌, ℕ, ◌≤◌, Bool, true, ◌&&◌, ltb, leb, List, [], ◌∷◌, map, reverse, Some, None, Option, sym, refl, ap, ◌∙◌, subst, arith}
-use Rattle.std.specs.List.{AllByRecursion as All}
+use Rattle.std.specs.List.{AllByRecursion}
 use Rattle.std.specs.List.Sorted.{IsPermutation}
 use Rattle.std.proofs.lemmas.List.Sorted.{IsPermutation-trans}
 use Rattle.std.proofs.lemmas.Bool.{and_parts, leb-true}
@@ -40,7 +40,7 @@ said_same kept n =
     ∙ ap (λ (x : List (ℕ × ℕ)). said_unit (ledger kept).gone x n (application_of (enrolments (reverse kept)) n)) (years_said kept)
     ∙ ap (λ (x : List Application). said_unit (ledger kept).gone (ledger kept).years n (application_of x n)) (enrolled_said kept)
 
-said_now : (start s : State) (kept : List Turn) → Agrees start s (ledger kept) → (es : List (ℕ × ℕ)) → All (OutIn s.book.units) es → map (as_leaving (reverse kept)) es ≡ map (exit_now s.book.units) es
+said_now : (start s : State) (kept : List Turn) → Agrees start s (ledger kept) → (es : List (ℕ × ℕ)) → AllByRecursion (OutIn s.book.units) es → map (as_leaving (reverse kept)) es ≡ map (exit_now s.book.units) es
 said_now start s kept g [] all = refl
 said_now start s kept g (e ∷ es) all =
     ap (λ (u : Row). leaving e.0 u e.1 ∷ map (as_leaving (reverse kept)) es) (said_same kept e.0 ∙ sym (g.each_unit e.0 all.0.0))

@@ -1,6 +1,6 @@
 -- The exits of a book at prices up to a cap, and what an entry or a new unit makes of them.
 use Rattle.std.proofs.Common.{◌≡◌, ℕ, zero, suc, ◌+◌, ◌<◌, ◌≤◌, Bool, true, false, cond, leb, List, [], ◌∷◌, ◌++◌, length, get_or, set, Some, None, sum_by, Option, sym, refl, ap, ◌∙◌, subst, arith}
-use Rattle.std.specs.List.{AllByRecursion as All}
+use Rattle.std.specs.List.{AllByRecursion}
 use Rattle.std.specs.List.Sorted.{IsPermutation}
 use Rattle.std.proofs.ByRecursion.{All-weaker}
 use Rattle.std.proofs.lemmas.List.Sorted.{IsPermutation-refl, IsPermutation-trans, IsPermutation-cons, IsPermutation-swap}
@@ -25,18 +25,18 @@ Above floor u = AboveAt floor u.standing.exit
 
 -- what holds of the exit of each unit that left at a price of at most the cap holds of the exits
 
-by_first : (top n : ℕ) (u : Row) (o : Option ℕ) (rest : List Exit) (P : Exit → Type 0) → ((price : ℕ) → o ≡ Some price → price ≤ top → P (leaving n u price)) → All P rest → All P (first_exit top n u o rest)
+by_first : (top n : ℕ) (u : Row) (o : Option ℕ) (rest : List Exit) (P : Exit → Type 0) → ((price : ℕ) → o ≡ Some price → price ≤ top → P (leaving n u price)) → AllByRecursion P rest → AllByRecursion P (first_exit top n u o rest)
 by_first top n u None rest P one all = all
 by_first top n u (Some price) rest P one all =
-    cond_both (leb price top) (leaving n u price ∷ rest) rest (All P) (λ e. (one price refl (leb-true _ _ e), all)) (λ e. all)
+    cond_both (leb price top) (leaving n u price ∷ rest) rest (AllByRecursion P) (λ e. (one price refl (leb-true _ _ e), all)) (λ e. all)
 
-pub numbers_from : (top n : ℕ) (us : List Row) → All (λ e. n ≤ e.unit) (exits_up_to top n us)
+pub numbers_from : (top n : ℕ) (us : List Row) → AllByRecursion (λ e. n ≤ e.unit) (exits_up_to top n us)
 numbers_from top n [] = tt
 numbers_from top n (u ∷ us) =
     by_first top n u u.standing.exit (exits_up_to top (n + 1) us) (λ e. n ≤ e.unit) (λ price e le. omega arith)
     (All-weaker (λ e. n + 1 ≤ e.unit) (λ e. n ≤ e.unit) (λ e le. omega arith) (exits_up_to top (n + 1) us) (numbers_from top (n + 1) us))
 
-distinct_first : (top n : ℕ) (u : Row) (o : Option ℕ) (rest : List Exit) → All (λ e. n + 1 ≤ e.unit) rest → Distinct (λ e. e.unit) rest → Distinct (λ e. e.unit) (first_exit top n u o rest)
+distinct_first : (top n : ℕ) (u : Row) (o : Option ℕ) (rest : List Exit) → AllByRecursion (λ e. n + 1 ≤ e.unit) rest → Distinct (λ e. e.unit) rest → Distinct (λ e. e.unit) (first_exit top n u o rest)
 distinct_first top n u None rest later d = d
 distinct_first top n u (Some price) rest later d =
     cond_both (leb price top) (leaving n u price ∷ rest) rest (Distinct (λ e. e.unit))
@@ -47,7 +47,7 @@ exits_distinct top n [] = tt
 exits_distinct top n (u ∷ us) =
     distinct_first top n u u.standing.exit (exits_up_to top (n + 1) us) (numbers_from top (n + 1) us) (exits_distinct top (n + 1) us)
 
-pub exits_most : (top n : ℕ) (us : List Row) → All (λ e. e.price ≤ top) (exits_up_to top n us)
+pub exits_most : (top n : ℕ) (us : List Row) → AllByRecursion (λ e. e.price ≤ top) (exits_up_to top n us)
 exits_most top n [] = tt
 exits_most top n (u ∷ us) =
     by_first top n u u.standing.exit (exits_up_to top (n + 1) us) (λ e. e.price ≤ top) (λ price e le. le) (exits_most top (n + 1) us)
@@ -55,13 +55,13 @@ exits_most top n (u ∷ us) =
 above_some : (floor : ℕ) (o : Option ℕ) (price : ℕ) → o ≡ Some price → AboveAt floor o → floor < price
 above_some floor o price e h = subst (AboveAt floor) e h
 
-pub exits_least : (floor top n : ℕ) (us : List Row) → All (Above floor) us → All (λ e. floor ≤ e.price) (exits_up_to top n us)
+pub exits_least : (floor top n : ℕ) (us : List Row) → AllByRecursion (Above floor) us → AllByRecursion (λ e. floor ≤ e.price) (exits_up_to top n us)
 exits_least floor top n [] all = tt
 exits_least floor top n (u ∷ us) all =
     by_first top n u u.standing.exit (exits_up_to top (n + 1) us) (λ e. floor ≤ e.price)
     (λ price e le. let lt = above_some floor _ price e all.0 in omega arith) (exits_least floor top (n + 1) us all.1)
 
-pub exits_large : (top n : ℕ) (us : List Row) → All (λ u. 1000 ≤ u.enrolled.capacity) us → All (λ e. 1 ≤ e.capacity) (exits_up_to top n us)
+pub exits_large : (top n : ℕ) (us : List Row) → AllByRecursion (λ u. 1000 ≤ u.enrolled.capacity) us → AllByRecursion (λ e. 1 ≤ e.capacity) (exits_up_to top n us)
 exits_large top n [] all = tt
 exits_large top n (u ∷ us) all =
     by_first top n u u.standing.exit (exits_up_to top (n + 1) us) (λ e. 1 ≤ e.capacity)
@@ -100,17 +100,17 @@ exits_few top n (u ∷ us) =
 
 -- and back: what holds of the exits holds of the exit of each unit that left at a price of at most the cap
 
-first_here : (top n : ℕ) (u : Row) (o : Option ℕ) (rest : List Exit) (P : Exit → Type 0) → All P (first_exit top n u o rest) → (price : ℕ) → o ≡ Some price → price ≤ top → P (leaving n u price)
+first_here : (top n : ℕ) (u : Row) (o : Option ℕ) (rest : List Exit) (P : Exit → Type 0) → AllByRecursion P (first_exit top n u o rest) → (price : ℕ) → o ≡ Some price → price ≤ top → P (leaving n u price)
 first_here top n u o rest P all price e le =
     let is : first_exit top n u o rest ≡ leaving n u price ∷ rest = ap (λ (x : Option ℕ). first_exit top n u x rest) e ∙ cond-true (leb price top) _ _ (le-leb price top le) in
-    (subst (All P) is all).0
+    (subst (AllByRecursion P) is all).0
 
-first_rest : (top n : ℕ) (u : Row) (o : Option ℕ) (rest : List Exit) (P : Exit → Type 0) → All P (first_exit top n u o rest) → All P rest
+first_rest : (top n : ℕ) (u : Row) (o : Option ℕ) (rest : List Exit) (P : Exit → Type 0) → AllByRecursion P (first_exit top n u o rest) → AllByRecursion P rest
 first_rest top n u None rest P all = all
 first_rest top n u (Some price) rest P all =
-    cond_both (leb price top) (leaving n u price ∷ rest) rest (λ (es : List Exit). All P es → All P rest) (λ e x. x.1) (λ e x. x) all
+    cond_both (leb price top) (leaving n u price ∷ rest) rest (λ (es : List Exit). AllByRecursion P es → AllByRecursion P rest) (λ e x. x.1) (λ e x. x) all
 
-pub exit_holds : (top n : ℕ) (us : List Row) (P : Exit → Type 0) → All P (exits_up_to top n us) → (i price : ℕ) → i < length us → (get_or us i no_unit).standing.exit ≡ Some price → price ≤ top → P (leaving (n + i) (get_or us i no_unit) price)
+pub exit_holds : (top n : ℕ) (us : List Row) (P : Exit → Type 0) → AllByRecursion P (exits_up_to top n us) → (i price : ℕ) → i < length us → (get_or us i no_unit).standing.exit ≡ Some price → price ≤ top → P (leaving (n + i) (get_or us i no_unit) price)
 exit_holds top n [] P all i price lt e le = absurd (omega arith)
 exit_holds top n (u ∷ us) P all zero price lt e le =
     let k : n ≡ n + 0 = omega arith in
@@ -134,7 +134,7 @@ exits_same top n (v ∷ us) zero u was is =
 exits_same top n (v ∷ us) (suc i) u was is = ap (first_exit top n v v.standing.exit) (exits_same top (n + 1) us i u was is)
 
 -- all left above the cap
-pub exits_none : (top n : ℕ) (us : List Row) → All (Above top) us → exits_up_to top n us ≡ []
+pub exits_none : (top n : ℕ) (us : List Row) → AllByRecursion (Above top) us → exits_up_to top n us ≡ []
 exits_none top n [] all = refl
 exits_none top n (u ∷ us) all = ap (first_exit top n u u.standing.exit) (exits_none top (n + 1) us all.1) ∙ none_first u.standing.exit all.0
   where
@@ -168,7 +168,7 @@ exits_more top n (v ∷ us) (suc i) u price lt was is le =
     (shuffled_first top n v v.standing.exit (leaving (n + 1 + i) u price) (exits_up_to top (n + 1) us) (exits_up_to top (n + 1) (set us i u)) more)
 
 -- each of the exits is that of a unit that left
-pub exits_true : (top n : ℕ) (us : List Row) (P : Exit → Type 0) → ((i price : ℕ) → i < length us → (get_or us i no_unit).standing.exit ≡ Some price → price ≤ top → P (leaving (n + i) (get_or us i no_unit) price)) → All P (exits_up_to top n us)
+pub exits_true : (top n : ℕ) (us : List Row) (P : Exit → Type 0) → ((i price : ℕ) → i < length us → (get_or us i no_unit).standing.exit ≡ Some price → price ≤ top → P (leaving (n + i) (get_or us i no_unit) price)) → AllByRecursion P (exits_up_to top n us)
 exits_true top n [] P each = tt
 exits_true top n (u ∷ us) P each =
     let here : n + 0 ≡ n = omega arith in

@@ -1,7 +1,7 @@
 -- The exits of a round can be cleared in their ranking. Assumes nothing.
 use Rattle.std.proofs.Common.{◌≡◌, ℕ, ◌+◌, ◌-◌, ◌<◌, ◌≤◌, Bool, true, cond, ltb, leb, List, [], ◌∷◌, take, Some, None, sum_by, Option, sym, refl, ap, subst, arith}
 use native.Mathlib.Nat.{sub-zero}
-use Rattle.std.specs.List.{AllByRecursion as All}
+use Rattle.std.specs.List.{AllByRecursion}
 use Rattle.std.proofs.lemmas.List.Sums.{sum_by-cons}
 use Rattle.std.proofs.lemmas.Bool.{and_parts, cond_both, leb-true, ltb-true}
 use Rattle.auction.specs.Sound.{price_above, exits_above, Priceable}
@@ -40,31 +40,31 @@ exits_distinct top n (u ∷ us) =
     let rest = exits_distinct top (n + 1) us in
     exits_cases (Distinct (λ (e : Exit). e.unit)) top n u us rest (λ price e le. (exits_absent top (n + 1) n us (omega arith), rest))
 
-exits_most : (top n : ℕ) (us : List Row) → top ≤ 10000 → All (λ (e : Exit). e.price ≤ 10000) (exits_up_to top n us)
+exits_most : (top n : ℕ) (us : List Row) → top ≤ 10000 → AllByRecursion (λ (e : Exit). e.price ≤ 10000) (exits_up_to top n us)
 exits_most top n [] low = tt
 exits_most top n (u ∷ us) low =
     let rest = exits_most top (n + 1) us low in
-    exits_cases (All (λ (e : Exit). e.price ≤ 10000)) top n u us rest (λ price e le. (omega arith, rest))
+    exits_cases (AllByRecursion (λ (e : Exit). e.price ≤ 10000)) top n u us rest (λ price e le. (omega arith, rest))
 
 pub above_price : (floor price : ℕ) (u : Row) → price_above floor u.standing ≡ true → u.standing.exit ≡ Some price → floor < price
 above_price floor price u above e =
     ltb-true _ _ (subst (λ (o : Option ℕ). elim o [ None ↦ true | Some p ↦ ltb floor p ] ≡ true) e above)
 
-exits_least : (floor top n : ℕ) (us : List Row) → exits_above floor us ≡ true → All (λ (e : Exit). floor ≤ e.price) (exits_up_to top n us)
+exits_least : (floor top n : ℕ) (us : List Row) → exits_above floor us ≡ true → AllByRecursion (λ (e : Exit). floor ≤ e.price) (exits_up_to top n us)
 unfolding exits_above
 exits_least floor top n [] above = tt
 exits_least floor top n (u ∷ us) above =
     let parts = and_parts _ _ above in
     let rest = exits_least floor top (n + 1) us parts.1 in
-    exits_cases (All (λ (e : Exit). floor ≤ e.price)) top n u us rest (λ price e le. (let lt : floor < price = above_price floor price u parts.0 e in omega arith, rest))
+    exits_cases (AllByRecursion (λ (e : Exit). floor ≤ e.price)) top n u us rest (λ price e le. (let lt : floor < price = above_price floor price u parts.0 e in omega arith, rest))
 
-exits_some : (top n : ℕ) (us : List Row) → lawful_units us ≡ true → All (λ (e : Exit). 1 ≤ e.capacity) (exits_up_to top n us)
+exits_some : (top n : ℕ) (us : List Row) → lawful_units us ≡ true → AllByRecursion (λ (e : Exit). 1 ≤ e.capacity) (exits_up_to top n us)
 unfolding lawful_units
 exits_some top n [] h = tt
 exits_some top n (u ∷ us) h =
     let parts = and_parts _ _ h in
     let rest = exits_some top (n + 1) us parts.1 in
-    exits_cases (All (λ (e : Exit). 1 ≤ e.capacity)) top n u us rest (λ price e le. (omega (arith, (unit_capacity u parts.0).0), rest))
+    exits_cases (AllByRecursion (λ (e : Exit). 1 ≤ e.capacity)) top n u us rest (λ price e le. (omega (arith, (unit_capacity u parts.0).0), rest))
 
 out_nothing : (u : Row) (price : ℕ) → u.standing.exit ≡ Some price → in_kw u ≡ 0
 out_nothing u price e = ap (λ (o : Option ℕ). elim o [ None ↦ u.enrolled.capacity | Some p ↦ 0 ]) e

@@ -1,6 +1,6 @@
 -- The settlement of an auction that settled, and what it awards.
 use Rattle.std.proofs.Common.{◌≡◌, ℕ, zero, suc, ◌+◌, ◌<◌, ◌≤◌, Bool, true, false, eqb, List, [], ◌∷◌, ◌++◌, map, length, get_or, take, drop, Some, None, Option, sym, refl, ap, ◌∙◌, subst, ⊎_elim, arith}
-use Rattle.std.specs.List.{AllByRecursion as All}
+use Rattle.std.specs.List.{AllByRecursion}
 use Rattle.std.proofs.ByRecursion.{All-get_or, All-weaker, All-append, All-take, All-drop, All-map, all_shuffled}
 use Rattle.std.proofs.lemmas.List.{take-append-drop, get_or_past}
 use Rattle.std.proofs.lemmas.List.Sorted.{IsPermutation-sym}
@@ -32,22 +32,22 @@ use Rattle.ranking.specs.declared.exits.Exit.{Exit}
 use Rattle.ranking.specs.Laws.{Laws as OrderLaws}
 use Rattle.ranking.specs.Rankings.{InOrder, RanksExits}
 
-all_both : {X : Type 0} (P Q : X → Type 0) (xs : List X) → All P xs → All Q xs → All (λ x. P x × Q x) xs
+all_both : {X : Type 0} (P Q : X → Type 0) (xs : List X) → AllByRecursion P xs → AllByRecursion Q xs → AllByRecursion (λ x. P x × Q x) xs
 all_both P Q [] p q = tt
 all_both P Q (x ∷ xs) p q = ((p.0, q.0), all_both P Q xs p.1 q.1)
 
-among_holds : (i : ℕ) (P : Exit → Type 0) (es : List Exit) → All P es → among i es ≡ true → (e : Exit) × (i ≡ e.unit) × P e
+among_holds : (i : ℕ) (P : Exit → Type 0) (es : List Exit) → AllByRecursion P es → among i es ≡ true → (e : Exit) × (i ≡ e.unit) × P e
 among_holds i P [] all h = absurd (false≢true h)
 among_holds i P (e ∷ es) all h =
     ⊎_elim (λ is. (e, eqb-true i e.unit is, all.0)) (λ later. among_holds i P es all.1 later) (or_cases (eqb i e.unit) (among i es) h)
 
-among_none : (i : ℕ) (es : List Exit) → among i es ≡ false → All (λ e. e.unit ≡ i → ⊥) es
+among_none : (i : ℕ) (es : List Exit) → among i es ≡ false → AllByRecursion (λ e. e.unit ≡ i → ⊥) es
 among_none i [] h = tt
 among_none i (e ∷ es) h =
     let parts = or_parts (eqb i e.unit) (among i es) h in
     ((λ same. eqb-false i e.unit parts.0 (sym same)), among_none i es parts.1)
 
-among_each : (es : List Exit) → All (λ e. among e.unit es ≡ true) es
+among_each : (es : List Exit) → AllByRecursion (λ e. among e.unit es ≡ true) es
 among_each [] = tt
 among_each (x ∷ es) = (
   or_left _ _ (eq-eqb x.unit x.unit refl),
@@ -55,15 +55,15 @@ among_each (x ∷ es) = (
 )
 
 -- of exits in order, each of the first k is ahead of each behind them
-order_split : (ahead : Exit → Exit → Bool) (k : ℕ) (xs : List Exit) → InOrder ahead xs → All (λ x. All (λ e. ahead e x ≡ true) (take k xs)) (drop k xs)
+order_split : (ahead : Exit → Exit → Bool) (k : ℕ) (xs : List Exit) → InOrder ahead xs → AllByRecursion (λ x. AllByRecursion (λ e. ahead e x ≡ true) (take k xs)) (drop k xs)
 order_split ahead zero [] ordered = tt
 order_split ahead zero (y ∷ ys) ordered = (tt, order_split ahead zero ys ordered.1)
 order_split ahead (suc k) [] ordered = tt
 order_split ahead (suc k) (y ∷ ys) ordered =
-    all_both (λ x. ahead y x ≡ true) (λ x. All (λ e. ahead e x ≡ true) (take k ys)) (drop k ys)
+    all_both (λ x. ahead y x ≡ true) (λ x. AllByRecursion (λ e. ahead e x ≡ true) (take k ys)) (drop k ys)
     (All-drop (λ x. ahead y x ≡ true) k ys ordered.0) (order_split ahead k ys ordered.1)
 
-price_most : (top floor : ℕ) (exits : List Exit) (i : ℕ) → floor ≤ top → All (λ e. e.price ≤ top) exits → price_at floor exits i ≤ top
+price_most : (top floor : ℕ) (exits : List Exit) (i : ℕ) → floor ≤ top → AllByRecursion (λ e. e.price ≤ top) exits → price_at floor exits i ≤ top
 price_most top floor exits i low all =
     let prices : List ℕ = floor ∷ map (λ e. e.price) exits in
     ⊎_elim
@@ -98,21 +98,21 @@ module _ (s : State) (sound : Sound s) (order : OrderLaws (λ e. e.unit) s.ahead
   unfolding outcome_of
   priced_holds = outcome_holds s.curve (words s.curve laws) (floor_of s) (in_of s) ranked ok
 
-  ranked_most : All (λ e. e.price ≤ s.top) ranked
+  ranked_most : AllByRecursion (λ e. e.price ≤ s.top) ranked
   ranked_most = all_shuffled _ _ ranked (ranked_so s order).same_items (exits_most s.top 0 us)
 
   -- an exit in the ranking has the capacity and the years of its unit
   abbrev Whole : Exit → Type 0
   Whole e = ◌≡◌ {A = ℕ × ℕ} ((get_or us e.unit no_unit).enrolled.capacity, (get_or us e.unit no_unit).standing.years) (e.capacity, e.years)
 
-  ranked_whole : All Whole ranked
+  ranked_whole : AllByRecursion Whole ranked
   ranked_whole =
       all_shuffled Whole _ ranked (ranked_so s order).same_items
       (exits_true s.top 0 us Whole
       (λ i price lt e le. let k : 0 + i ≡ i = omega arith in let of : ℕ → ℕ × ℕ = λ j. ((get_or us j no_unit).enrolled.capacity, (get_or us j no_unit).standing.years) in ap of k))
 
   -- an exit in the ranking is at the price at which its unit left
-  ranked_true : All (λ e. (get_or us e.unit no_unit).standing.exit ≡ Some e.price) ranked
+  ranked_true : AllByRecursion (λ e. (get_or us e.unit no_unit).standing.exit ≡ Some e.price) ranked
   ranked_true =
       all_shuffled (λ e. (get_or us e.unit no_unit).standing.exit ≡ Some e.price) _ ranked (ranked_so s order).same_items
       (exits_true s.top 0 us (λ e. (get_or us e.unit no_unit).standing.exit ≡ Some e.price)
@@ -137,7 +137,7 @@ module _ (s : State) (sound : Sound s) (order : OrderLaws (λ e. e.unit) s.ahead
     award_whole : (i : ℕ) → is_awarded s c i ≡ true → award_of s c i ≡ ((get_or us i no_unit).enrolled.capacity, (get_or us i no_unit).standing.years)
     award_whole i awarded = cond-true (is_awarded s c i) _ _ awarded
 
-    exits_whole : All (λ e. award_of s c e.unit ≡ (e.capacity, e.years)) (awarded_exits s c)
+    exits_whole : AllByRecursion (λ e. award_of s c e.unit ≡ (e.capacity, e.years)) (awarded_exits s c)
     exits_whole =
         All-weaker (λ e. (among e.unit (awarded_exits s c) ≡ true) × Whole e) (λ e. award_of s c e.unit ≡ (e.capacity, e.years))
         (λ e h. award_whole e.unit (or_right (get_or us e.unit no_unit).standing.inside _ h.0) ∙ h.1)
@@ -166,16 +166,16 @@ module _ (s : State) (sound : Sound s) (order : OrderLaws (λ e. e.unit) s.ahead
 
     -- what is shown of a unit without an award: it left at or above the price, and behind every awarded exit
     abbrev Behind : Exit → Type 0
-    Behind x = (c.price ≤ x.price) × All (λ e. price_ahead s.ahead e x ≡ true) (awarded_exits s c)
+    Behind x = (c.price ≤ x.price) × AllByRecursion (λ e. price_ahead s.ahead e x ≡ true) (awarded_exits s c)
 
-    ranked_behind : (i : ℕ) → among i (awarded_exits s c) ≡ false → All (λ x. x.unit ≡ i → Behind x) ranked
+    ranked_behind : (i : ℕ) → among i (awarded_exits s c) ≡ false → AllByRecursion (λ x. x.unit ≡ i → Behind x) ranked
     ranked_behind i none =
         let split : take c.stop ranked ++ drop c.stop ranked ≡ ranked = take-append-drop c.stop ranked in
-        subst (All (λ x. x.unit ≡ i → Behind x)) split
+        subst (AllByRecursion (λ x. x.unit ≡ i → Behind x)) split
         (All-append (λ x. x.unit ≡ i → Behind x) (take c.stop ranked) (drop c.stop ranked)
         (All-weaker (λ x. x.unit ≡ i → ⊥) (λ x. x.unit ≡ i → Behind x) (λ x no-unit-i same. absurd (no-unit-i same)) (take c.stop ranked) (among_none i (awarded_exits s c) none))
         (All-weaker Behind (λ x. x.unit ≡ i → Behind x) (λ x b same. b) (drop c.stop ranked)
-        (all_both (λ x. c.price ≤ x.price) (λ x. All (λ e. price_ahead s.ahead e x ≡ true) (awarded_exits s c)) (drop c.stop ranked) below.1 (order_split (price_ahead s.ahead) c.stop ranked (ranked_so s order).in_order))))
+        (all_both (λ x. c.price ≤ x.price) (λ x. AllByRecursion (λ e. price_ahead s.ahead e x ≡ true) (awarded_exits s c)) (drop c.stop ranked) below.1 (order_split (price_ahead s.ahead) c.stop ranked (ranked_so s order).in_order))))
 
     left_behind : (i price : ℕ) → i < length us → is_awarded s c i ≡ false → (get_or us i no_unit).standing.exit ≡ Some price → Behind (leaving i (get_or us i no_unit) price)
     left_behind i price lt unawarded left =
@@ -191,7 +191,7 @@ module _ (s : State) (sound : Sound s) (order : OrderLaws (λ e. e.unit) s.ahead
         (λ (low : price ≤ s.top).
         let k : 0 + i ≡ i = omega arith in
         let items : List Exit = exits_up_to s.top 0 us in
-        let all : All (λ x. x.unit ≡ i → Behind x) items = all_shuffled (λ x. x.unit ≡ i → Behind x) ranked items (IsPermutation-sym items ranked (ranked_so s order).same_items) (ranked_behind i none) in
+        let all : AllByRecursion (λ x. x.unit ≡ i → Behind x) items = all_shuffled (λ x. x.unit ≡ i → Behind x) ranked items (IsPermutation-sym items ranked (ranked_so s order).same_items) (ranked_behind i none) in
         let held : (leaving (0 + i) (get_or us i no_unit) price).unit ≡ i → Behind (leaving (0 + i) (get_or us i no_unit) price) = exit_holds s.top 0 us (λ x. x.unit ≡ i → Behind x) all i price lt left low in
         subst (λ (j : ℕ). Behind (leaving j (get_or us i no_unit) price)) k (held k))
         (cases_lt s.top price)

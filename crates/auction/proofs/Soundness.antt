@@ -1,6 +1,6 @@
 -- What holds of every auction that was opened, whatever was called since; from it the round that is open can be cleared.
 use Rattle.std.proofs.Common.{◌≡◌, ℕ, ◌+◌, ◌<◌, ◌≤◌, Bool, true, cond, eqb, List, [], ◌∷◌, ◌++◌, map, length, get_or, set, Some, None, Option, sym, refl, ap, ◌∙◌, subst, arith}
-use Rattle.std.specs.List.{AllByRecursion as All}
+use Rattle.std.specs.List.{AllByRecursion}
 use Rattle.std.specs.List.Sorted.{IsPermutation}
 use Rattle.std.proofs.ByRecursion.{All-from_get_or, All-weaker}
 use Rattle.std.proofs.lemmas.List.{map_push, get_or-set_same, get_or-set_other}
@@ -32,19 +32,19 @@ use Rattle.ranking.specs.Rankings.{RanksExits}
 pub record Sound (s : State) : Type 0 where
   -- no price is above the largest
   pub top_most : s.top ≤ top_price
-  pub large : All (λ u. 1000 ≤ u.enrolled.capacity) s.book.units
+  pub large : AllByRecursion (λ u. 1000 ≤ u.enrolled.capacity) s.book.units
   pub most : total_enrolled s.book.units ≤ ceiling
   -- a unit is in exactly if it has no exit price
-  pub in_or_out : All (λ u. u.standing.inside ≡ is_none u.standing.exit) s.book.units
+  pub in_or_out : AllByRecursion (λ u. u.standing.inside ≡ is_none u.standing.exit) s.book.units
   -- every unit that left did so above the floor
-  pub above_floor : All (Above (floor_of s)) s.book.units
+  pub above_floor : AllByRecursion (Above (floor_of s)) s.book.units
 
-last_above : (floor i : ℕ) (found : Option ℕ) (es : List (ℕ × ℕ)) → AboveAt floor found → All (λ e. floor < e.1) es → AboveAt floor (last_for i found es)
+last_above : (floor i : ℕ) (found : Option ℕ) (es : List (ℕ × ℕ)) → AboveAt floor found → AllByRecursion (λ e. floor < e.1) es → AboveAt floor (last_for i found es)
 last_above floor i found [] h all = h
 last_above floor i found (e ∷ es) h all =
     last_above floor i (cond (eqb i e.0) (Some e.1) found) es (cond_both (eqb i e.0) (Some e.1) found (AboveAt floor) (λ x. all.0) (λ x. h)) all.1
 
-all_above : (start s : State) (l : Ledger) → Agrees start s l → All (Above (floor_of s)) s.book.units
+all_above : (start s : State) (l : Ledger) → Agrees start s l → AllByRecursion (Above (floor_of s)) s.book.units
 all_above start s l g =
     All-from_get_or (Above (floor_of s)) s.book.units no_unit
     (λ i lt. subst (Above (floor_of s)) (sym (g.each_unit i lt)) (last_above (floor_of s) i None l.gone tt g.above_floor))
@@ -99,7 +99,7 @@ clearable s sound laws =
 abbrev pub exit_now : List Row → ℕ × ℕ → Exit
 exit_now us e = leaving e.0 (get_or us e.0 no_unit) e.1
 
-all_behind : {X : Type 0} (P : X → Type 0) (xs ys : List X) → All P (xs ++ ys) → All P ys
+all_behind : {X : Type 0} (P : X → Type 0) (xs ys : List X) → AllByRecursion P (xs ++ ys) → AllByRecursion P ys
 all_behind P [] ys all = all
 all_behind P (x ∷ xs) ys all = all_behind P xs ys all.1
 
@@ -108,7 +108,7 @@ none_behind [] ys e = e
 none_behind (x ∷ xs) ys e = let z : ◌≡◌ {A = ℕ} 0 1 = cc in absurd (omega arith)
 
 -- the exits that stand are not of a unit that is in
-exits_now_same : (us : List Row) (i : ℕ) (u : Row) → (get_or us i no_unit).standing.exit ≡ None → (es : List (ℕ × ℕ)) → All (OutIn us) es → map (exit_now (set us i u)) es ≡ map (exit_now us) es
+exits_now_same : (us : List Row) (i : ℕ) (u : Row) → (get_or us i no_unit).standing.exit ≡ None → (es : List (ℕ × ℕ)) → AllByRecursion (OutIn us) es → map (exit_now (set us i u)) es ≡ map (exit_now us) es
 exits_now_same us i u stays [] all = refl
 exits_now_same us i u stays (e ∷ es) all =
     let gone = all.0.1 in
@@ -123,8 +123,8 @@ module _ (start s : State) (l : Ledger) (g : Agrees start s l) (r : InRound s l)
   abbrev us : List Row
   us = s.book.units
 
-  pub round_out : All (OutIn us) l.round
-  round_out = all_behind (OutIn us) l.earlier l.round (subst (All (OutIn us)) g.rounds g.out)
+  pub round_out : AllByRecursion (OutIn us) l.round
+  round_out = all_behind (OutIn us) l.earlier l.round (subst (AllByRecursion (OutIn us)) g.rounds g.out)
 
   no_round : l.gone ≡ [] → l.round ≡ []
   no_round e = none_behind l.earlier l.round (sym g.rounds ∙ e)

@@ -1,6 +1,6 @@
 -- What holds after every list of calls, from Open on. Assumes nothing.
 use Rattle.std.specs.Prelude.{◌≡◌, ℕ, ◌+◌, ◌<◌, ◌≤◌, Bool, true, false, List, ◌∷◌, ◌++◌, map, length, Some, None}
-use Rattle.std.specs.List.{AllByRecursion as All}
+use Rattle.std.specs.List.{AllByRecursion}
 use Rattle.auction.specs.declared.calls.Call.{Call}
 use Rattle.auction.specs.declared.calls.Figures.{Figures}
 use Rattle.auction.specs.declared.calls.Turn.{Turn}
@@ -38,7 +38,7 @@ pub record CapacityIn (m : Meaning) (top spread : ℕ) (h : List Turn) : Type 0 
   -- the demand is that at the floor
   pub demanded : EachClose h (λ before later f settled. f.demand ≡ m.demand (closing_floor top spread before))
   -- it is never above that of an earlier accepted Close
-  pub never_rises : EachClose h (λ before later f settled. All (λ g. f.capacity_in ≤ g.capacity_in) (closings before))
+  pub never_rises : EachClose h (λ before later f settled. AllByRecursion (λ g. f.capacity_in ≤ g.capacity_in) (closings before))
   -- at floor 0 the Close settles
   pub at_floor_zero : EachClose h (λ before later f settled. closing_floor top spread before ≡ 0 → settled ≡ true)
 
@@ -55,7 +55,7 @@ pub record SettlementOf (m : Meaning) (ahead : Exit → Exit → Bool) (floor s0
   -- a unit still in is awarded its whole capacity with its years,
   pub in_awarded : (i : ℕ) → i < length s.book.units → (unit_at s.book i).standing.exit ≡ None → award_of s settlement i ≡ ((unit_at s.book i).enrolled.capacity, (unit_at s.book i).standing.years)
   -- and so is the unit of each exit up to the stopping place,
-  pub exits_awarded : All (λ e. award_of s settlement e.unit ≡ (e.capacity, e.years)) (awarded_exits s settlement)
+  pub exits_awarded : AllByRecursion (λ e. award_of s settlement e.unit ≡ (e.capacity, e.years)) (awarded_exits s settlement)
   -- and no other unit is awarded anything
   pub others_nothing : (i : ℕ) → is_awarded s settlement i ≡ false → award_of s settlement i ≡ (0, 0)
   -- no awarded unit left above the clearing price
@@ -63,7 +63,7 @@ pub record SettlementOf (m : Meaning) (ahead : Exit → Exit → Bool) (floor s0
   -- every other unit left, at or above the clearing price,
   pub others_left : (i : ℕ) → i < length s.book.units → is_awarded s settlement i ≡ false → (price : ℕ) × ((unit_at s.book i).standing.exit ≡ Some price) × (settlement.price ≤ price)
   -- and ranks behind every awarded exit
-  pub others_behind : (i price : ℕ) → i < length s.book.units → is_awarded s settlement i ≡ false → (unit_at s.book i).standing.exit ≡ Some price → All (λ e. price_ahead ahead e (leaving i (unit_at s.book i) price) ≡ true) (awarded_exits s settlement)
+  pub others_behind : (i price : ℕ) → i < length s.book.units → is_awarded s settlement i ≡ false → (unit_at s.book i).standing.exit ≡ Some price → AllByRecursion (λ e. price_ahead ahead e (leaving i (unit_at s.book i) price) ≡ true) (awarded_exits s settlement)
   -- no stopping place from the last fit on gains the buyer more
   pub best : Best m floor s0 (ranked_exits s) settlement
 
@@ -80,7 +80,7 @@ pub record Clearing (m : Meaning) (ahead : Exit → Exit → Bool) (top spread :
   -- an accepted Close settles exactly if its capacity in is within the demand at its floor
   pub settles_if_within : EachClose h (λ before later f settled. settled ≡ within m (closing_floor top spread before) f.capacity_in)
   -- and then every further call is refused, so that it is the first such Close and the only one that settles
-  pub settles_once : EachClose h (λ before later f settled. settled ≡ true → All (λ t. saying t ≡ refused) later)
+  pub settles_once : EachClose h (λ before later f settled. settled ≡ true → AllByRecursion (λ t. saying t ≡ refused) later)
   -- nothing else settles an auction
   pub settles_by_close : end.stage ≡ Settled → SettledIn h
   -- and the settlement at the end is that of the relation

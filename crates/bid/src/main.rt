@@ -8,6 +8,7 @@ use bidtext::{TextFault, text_words, words_text};
 use failure::Failure;
 use std::env;
 use std::io::{Read, Write};
+use std::process::ExitCode;
 
 const MOST_TEXT: usize = 4_194_304;
 
@@ -70,10 +71,12 @@ fn run(rt: &HostRuntime) -> Result<(), Failure> {
     }
 }
 
-fn main(rt: HostRuntime) -> Result<(), Failure> {
-    let result = run(&rt);
-    if let Err(failure) = result {
-        let _ = rt.eprintln(failure);
+fn main(rt: HostRuntime) -> ExitCode {
+    match run(&rt) {
+        Ok(()) => ExitCode::SUCCESS,
+        Err(failure) => {
+            let _ = rt.eprintln(failure);
+            ExitCode::FAILURE
+        }
     }
-    result
 }

@@ -2,7 +2,7 @@
 use Rattle.std.proofs.Common.{◌≡◌, ℕ, suc, ◌+◌, ◌*◌, ◌/◌, ◌%◌, ◌<◌, ◌≤◌, Bool, true, false, cond, ◌&&◌, eqb, leb, List, [], ◌∷◌, ◌++◌, length, get_or, take, drop, Some, None, Option, sym, refl, ap, ◌∙◌, arith}
 use Rattle.std.proofs.lemmas.List.{append_assoc, drop_at, drop-drop, get_or-drop, length-append, length-drop, take_at}
 use Rattle.std.proofs.lemmas.Bool.{and_from, le-leb, eq-eqb}
-use Rattle.std.specs.List.{flat_map, AllByRecursion as All}
+use Rattle.std.specs.List.{flat_map, AllByRecursion}
 use Rattle.bidfile.specs.declared.records.CornerRecord.{CornerRecord}
 use Rattle.bidfile.specs.declared.records.CurveChoice.{CurveChoice}
 use Rattle.bidfile.specs.declared.records.CurveChoice.TheVariants.{Straight, Stepped}
@@ -68,7 +68,7 @@ first_value bytes at k v ws rest few lt h =
     ap (λ (w : ℕ). w % 268435456) (first_word bytes at (head k v) ws rest (omega arith) h) ∙ head_value k v lt
 
 -- operands are of kind 0, have their values, and then comes the rest
-operands_plain : (bytes : List ℕ) (at : ℕ) (ws rest : List ℕ) → All (λ v. v < 268435456) ws → Begins bytes at ws rest → plain_words (length ws) bytes at ≡ true
+operands_plain : (bytes : List ℕ) (at : ℕ) (ws rest : List ℕ) → AllByRecursion (λ v. v < 268435456) ws → Begins bytes at ws rest → plain_words (length ws) bytes at ≡ true
 operands_plain bytes at [] rest each h = refl
 operands_plain bytes at (v ∷ vs) rest each h =
     let lt : v < 268435456 = each.0 in
@@ -76,7 +76,7 @@ operands_plain bytes at (v ∷ vs) rest each h =
     and_from (eqb (kind_at bytes at) 0) (plain_words (length vs) bytes (at + 1)) (eq-eqb (kind_at bytes at) 0 kind)
     (operands_plain bytes (at + 1) vs rest each.1 (next_words bytes at v vs rest h))
 
-operands_are : (bytes : List ℕ) (at : ℕ) (ws rest : List ℕ) → All (λ v. v < 268435456) ws → Begins bytes at ws rest → values_from (length ws) bytes at ≡ ws
+operands_are : (bytes : List ℕ) (at : ℕ) (ws rest : List ℕ) → AllByRecursion (λ v. v < 268435456) ws → Begins bytes at ws rest → values_from (length ws) bytes at ≡ ws
 operands_are bytes at [] rest each h = refl
 operands_are bytes at (v ∷ vs) rest each h =
     let lt : v < 268435456 = each.0 in
@@ -103,7 +103,7 @@ record Written (i : Item) (v : ℕ) (ops : List ℕ) : Type 0 where
   words_are : words_of i ≡ head (item_kind i) v ∷ ops
   value : v < 268435456
   few : item_kind i < 16
-  small : All (λ w. w < 268435456) ops
+  small : AllByRecursion (λ w. w < 268435456) ops
   count : operands (item_kind i) ≡ length ops
   long : length (layout i) ≡ 4 * size (item_kind i)
 
@@ -302,7 +302,7 @@ module _ (bytes : List ℕ) (at : ℕ) (more : List ℕ) where
   found_again step_back fits h = step_found h
   found_again close fits h = close_found h
 
-reads_from : (items : List Item) (bytes : List ℕ) (at : ℕ) → All Fits items → drop (4 * at) bytes ≡ flat_map layout items → found bytes at ≡ in_places at items
+reads_from : (items : List Item) (bytes : List ℕ) (at : ℕ) → AllByRecursion Fits items → drop (4 * at) bytes ≡ flat_map layout items → found bytes at ≡ in_places at items
 reads_from [] bytes at fits h =
     let left = length-drop (4 * at) bytes in
     let none = ap length h in

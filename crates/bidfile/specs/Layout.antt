@@ -1,6 +1,6 @@
 -- How records are written. Assumes nothing.
 use Rattle.std.specs.Prelude.{◌≡◌, ℕ, ◌+◌, ◌*◌, ◌/◌, ◌%◌, ◌<◌, true, List, [], ◌∷◌, ◌++◌, length, Some}
-use Rattle.std.specs.List.{flat_map, AllByRecursion as All}
+use Rattle.std.specs.List.{flat_map, AllByRecursion}
 use Rattle.bidfile.specs.Found.{Found, found}
 use Rattle.bidfile.specs.Items.{Item, terms, corner, unit, exit, years, step_back, close, item_kind, size, curve_number, order_number, maker_number}
 
@@ -51,7 +51,7 @@ values_of close = []
 abbrev pub Named : Item → Type 0
 Named (terms t) = Unit {0}
 Named (corner c) = Unit {0}
-Named (unit u) = (length u.bytes ≡ 8) × All (λ b. b < 256) u.bytes
+Named (unit u) = (length u.bytes ≡ 8) × AllByRecursion (λ b. b < 256) u.bytes
 Named (exit e) = Unit {0}
 Named (years y) = Unit {0}
 Named step_back = Unit {0}
@@ -59,7 +59,7 @@ Named close = Unit {0}
 
 -- a record that can be written
 pub record Fits (item : Item) : Type 0 where
-  pub values : All (λ v. v < 268435456) (values_of item)
+  pub values : AllByRecursion (λ v. v < 268435456) (values_of item)
   pub named : Named item
 
 -- records as they are found, one after the other from a place on
@@ -70,4 +70,4 @@ in_places at (item ∷ items) =
 
 -- records that are written one after the other are found again, all of them, in that order, and nothing else
 abbrev pub ReadsBack : Type 0
-ReadsBack = (items : List Item) → All Fits items → found (flat_map layout items) 0 ≡ in_places 0 items
+ReadsBack = (items : List Item) → AllByRecursion Fits items → found (flat_map layout items) 0 ≡ in_places 0 items

@@ -1,11 +1,9 @@
 -- The fields of a line that is written field by field, and what numbers, words and classes are read as. Assumes nothing.
-use Rattle.std.proofs.Common.{◌≡◌, ℕ, ◌+◌, ◌-◌, ◌*◌, ◌^◌, ◌<◌, ◌≤◌, Bool, true, false, cond, ◌&&◌, eqb, ltb, leb, List, [], ◌∷◌, ◌++◌, length, Ok, Err, codes, decimal, Result, sym, refl, ap, ◌∙◌, subst, ⊎_elim, arith, rules}
-use Rattle.bidtext.specs.declared.expected.Expected.{Expected}
-use Rattle.bidtext.specs.declared.expected.Expected.TheVariants as expected
+use Rattle.std.proofs.Common.{◌≡◌, ℕ, ◌<◌, true, false, eqb, ltb, leb, List, [], ◌∷◌, ◌++◌, length, Ok, codes, decimal, sym, refl, ap, ◌∙◌, subst, ⊎_elim, arith, rules}
 use Rattle.bidtext.specs.declared.letters.Letter.{Letter}
 use Rattle.bidtext.specs.declared.letters.Letter.TheVariants.{Inner, Digit}
 use Rattle.bidtext.specs.Fields.{onto, pieces, filled, fields}
-use Rattle.bidtext.specs.Letters.{blank, is_letter, every}
+use Rattle.bidtext.specs.Letters.{is_letter, every}
 use Rattle.bidtext.specs.Texts.{class_word}
 use Rattle.bidtext.specs.Values.{value_after, value_of, numeral, number_in, class_in}
 use Rattle.bidtext.proofs.Pieces.{pieces_letter}

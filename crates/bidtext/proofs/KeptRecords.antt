@@ -1,5 +1,5 @@
 -- Records that are listed one by one. Assumes nothing.
-use Rattle.std.proofs.Common.{◌≡◌, ℕ, ◌+◌, ◌-◌, ◌<◌, ◌≤◌, List, [], ◌∷◌, ◌++◌, Some, None, Ok, Err, Option, Result, sym, refl, ap, ◌∙◌, subst, append_assoc, append-nil, arith}
+use Rattle.std.proofs.Common.{◌≡◌, ℕ, ◌-◌, ◌<◌, ◌≤◌, List, [], ◌∷◌, ◌++◌, Some, None, Ok, Err, Option, Result, sym, ap, ◌∙◌, subst, append_assoc, append-nil, arith}
 use Rattle.bidfile.specs.declared.fault.FileFault.{FileFault}
 use Rattle.bidfile.specs.declared.records.Placed.{Placed}
 use Rattle.bidfile.specs.Found.{Found, found, later}

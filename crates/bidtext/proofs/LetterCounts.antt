@@ -1,5 +1,5 @@
 -- The bytes of a kind that come first. Assumes nothing.
-use Rattle.std.proofs.Common.{◌≡◌, ℕ, ◌+◌, ◌≤◌, Bool, eqb, List, [], ◌∷◌, length, refl, arith}
+use Rattle.std.proofs.Common.{◌≡◌, ℕ, eqb, List, [], ◌∷◌, length, refl, arith}
 use Rattle.bidtext.specs.declared.letters.Letter.{Letter}
 use Rattle.bidtext.specs.Letters.{is_letter, every}
 use Rattle.std.proofs.lemmas.List.Sums.{prefix_len-le-length}

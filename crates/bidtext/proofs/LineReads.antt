@@ -5,7 +5,7 @@ use Rattle.bidfile.specs.declared.records.CurveChoice.TheVariants.{Straight, Ste
 use Rattle.bidfile.specs.declared.records.OrderChoice.{OrderChoice}
 use Rattle.bidfile.specs.declared.records.OrderChoice.TheVariants.{ByRule, ByName}
 use Rattle.bidfile.specs.declared.records.TermsRecord.{TermsRecord}
-use Rattle.bidfile.specs.Items.{Item, UnitItem, terms, corner, unit, exit, years, step_back, close}
+use Rattle.bidfile.specs.Items.{UnitItem, terms, corner, unit, exit, years, step_back, close}
 use Rattle.bidfile.specs.Layout.{Fits}
 use Rattle.bidtext.specs.declared.expected.Expected.{Expected}
 use Rattle.bidtext.specs.declared.owned.OwnRecord.TheVariants.{Terms, Corner, Unit, Exit, Years}
@@ -15,10 +15,10 @@ use Rattle.bidtext.specs.Lines.{and_then, pair_line, unit_line, fields_record, l
 use Rattle.bidtext.specs.Names.{name_in}
 use Rattle.bidtext.specs.RoundTrip.{line_said, TextReadsBack}
 use Rattle.bidtext.specs.Texts.{curve_word, order_word, side_word, class_word, name_word, line_text}
-use Rattle.bidtext.specs.Values.{number_in, curve_in, order_in, maker_in, class_in}
+use Rattle.bidtext.specs.Values.{number_in, maker_in, class_in}
 use Rattle.bidtext.proofs.FieldTexts.{Field, fields_then, fields_last, word, decimal_field, number_reads, class_reads, class_field}
 use Rattle.bidtext.proofs.NameReads.{name_reads, name_field}
-use Rattle.std.specs.List.{AllByRecursion as All}
+use Rattle.std.specs.List.{AllByRecursion}
 
 curve_field : (c : CurveChoice) → Field (curve_word c)
 curve_field Straight = word _ refl (omega arith)
@@ -83,7 +83,7 @@ terms_reads x y z Stepped ByName i j k =
     let g = number_reads z k in
     simp (e, f, g)
 
-unit_fields : (u : UnitItem) → All (λ b. b < 256) u.bytes → u.capacity < 268435456 → u.class < 268435456 → u.years < 268435456 → u.random < 268435456 → fields (line_text (unit u)) ≡ codes "unit" ∷ (name_word u.bytes ∷ (decimal u.capacity ∷ (class_word u.class ∷ (side_word u.maker ∷ (codes "years" ∷ (decimal u.years ∷ (codes "random" ∷ (decimal u.random ∷ []))))))))
+unit_fields : (u : UnitItem) → AllByRecursion (λ b. b < 256) u.bytes → u.capacity < 268435456 → u.class < 268435456 → u.years < 268435456 → u.random < 268435456 → fields (line_text (unit u)) ≡ codes "unit" ∷ (name_word u.bytes ∷ (decimal u.capacity ∷ (class_word u.class ∷ (side_word u.maker ∷ (codes "years" ∷ (decimal u.years ∷ (codes "random" ∷ (decimal u.random ∷ []))))))))
 unit_fields u n a b c d =
     fields_then (codes "unit") _ _ (word _ refl (omega arith))
     (fields_then (name_word u.bytes) _ _ (name_field u.bytes n)

@@ -1,5 +1,5 @@
 -- The lines of records are read as these records. Assumes nothing.
-use Rattle.std.proofs.Common.{◌≡◌, ℕ, ◌+◌, ◌<◌, Bool, true, false, cond, eqb, List, [], ◌∷◌, ◌++◌, take, Some, Ok, Err, vec_items, codes, decimal, Result, Vec, sym, refl, ap, ◌∙◌, subst, append_assoc, arith}
+use Rattle.std.proofs.Common.{◌≡◌, ℕ, ◌+◌, ◌<◌, Bool, true, false, eqb, List, [], ◌∷◌, ◌++◌, take, Ok, Err, vec_items, codes, decimal, Result, Vec, sym, refl, ap, ◌∙◌, subst, append_assoc, arith}
 use Rattle.bidfile.specs.declared.records.CurveChoice.{CurveChoice}
 use Rattle.bidfile.specs.declared.records.CurveChoice.TheVariants.{Straight, Stepped}
 use Rattle.bidfile.specs.declared.records.OrderChoice.{OrderChoice}
@@ -25,7 +25,7 @@ use Rattle.bidtext.proofs.NameTexts.{every_first}
 use Rattle.std.proofs.lemmas.Bool.{cond-false, cond_both, and_parts, and_from}
 use Rattle.std.proofs.lemmas.Bool.Decides.{nat_tests}
 use Rattle.std.specs.declared.alloc.Global.{Global}
-use Rattle.std.specs.List.{flat_map, AllByRecursion as All}
+use Rattle.std.specs.List.{flat_map, AllByRecursion}
 
 -- bytes without a newline
 abbrev Even : List ℕ → Type 0
@@ -61,7 +61,7 @@ even_side : (m : Bool) → Even (side_word m)
 even_side true = refl
 even_side false = refl
 
-even_name : (bs : List ℕ) → All (λ b. b < 256) bs → Even (name_word bs)
+even_name : (bs : List ℕ) → AllByRecursion (λ b. b < 256) bs → Even (name_word bs)
 unfolding name_word
 even_name bs small =
     cond_both (is_plain bs) (take (marks bs) bs) (codes "hex:" ++ flat_map hex_pair bs) Even
@@ -101,7 +101,7 @@ no_line : line_items [] ≡ Ok []
 unfolding line_record fields
 no_line = refl
 
-items_back : (n : ℕ) (items : List Item) → All Fits items → items_from n (rows (flat_map text_line items)) ≡ Ok items
+items_back : (n : ℕ) (items : List Item) → AllByRecursion Fits items → items_from n (rows (flat_map text_line items)) ≡ Ok items
 items_back n [] f = ap (λ (r : Result (List Item) Expected). then_lines n r (Ok [])) no_line
 items_back n (item ∷ items) f =
     let rest = flat_map text_line items in
@@ -115,7 +115,7 @@ unfolding text_items
 lines_read items f = items_back 1 items f
 
 -- so the words for them are those of these records
-pub text_trip : (text : List ℕ) (r : Result (Vec ℕ Global) TextFault) → TextRead text r → (items : List Item) → All Fits items → text ≡ flat_map text_line items → TextOf items r
+pub text_trip : (text : List ℕ) (r : Result (Vec ℕ Global) TextFault) → TextRead text r → (items : List Item) → AllByRecursion Fits items → text ≡ flat_map text_line items → TextOf items r
 text_trip text (Ok words) h items f same =
     let read : text_items text ≡ Ok items = ap text_items same ∙ lines_read items f in
     let all : h.0 ≡ items = let e : Ok h.0 ≡ Ok items = sym h.1 ∙ read in cc in

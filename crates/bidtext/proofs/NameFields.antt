@@ -1,5 +1,5 @@
 -- Fields that hold names. Assumes nothing.
-use Rattle.std.proofs.Common.{◌≡◌, ℕ, zero, suc, ◌+◌, ◌-◌, ◌*◌, ◌<◌, ◌≤◌, true, List, [], ◌∷◌, length, get_or, take, codes, ap, ◌∙◌, arith}
+use Rattle.std.proofs.Common.{◌≡◌, ℕ, zero, suc, ◌<◌, ◌≤◌, true, List, [], ◌∷◌, length, get_or, take, codes, ap, arith}
 use Rattle.bidtext.specs.declared.letters.Letter.{Letter}
 use Rattle.bidtext.specs.declared.letters.Letter.TheVariants.{Hex}
 use Rattle.bidtext.specs.Letters.{is_letter, every}

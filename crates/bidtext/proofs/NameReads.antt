@@ -1,5 +1,5 @@
 -- A name is read from its text as it was. Assumes nothing.
-use Rattle.std.proofs.Common.{◌≡◌, ℕ, zero, suc, ◌+◌, ◌-◌, ◌*◌, ◌/◌, ◌%◌, ◌<◌, ◌≤◌, min, Bool, true, false, cond, not, ◌&&◌, eqb, leb, List, [], ◌∷◌, ◌++◌, length, get_or, take, drop, Ok, Err, codes, sym, refl, ap, ◌∙◌, subst, ⊎_elim, arith}
+use Rattle.std.proofs.Common.{◌≡◌, ℕ, zero, suc, ◌+◌, ◌-◌, ◌*◌, ◌/◌, ◌%◌, ◌<◌, ◌≤◌, true, false, not, ◌&&◌, eqb, leb, List, [], ◌∷◌, ◌++◌, length, get_or, take, drop, Ok, Err, codes, sym, refl, ap, ◌∙◌, ⊎_elim, arith}
 use Rattle.bidtext.specs.declared.expected.Expected.TheVariants as expected
 use Rattle.bidtext.specs.declared.letters.Letter.TheVariants.{Inner, Space, Hex, Mark}
 use Rattle.bidtext.specs.Letters.{is_letter, every}
@@ -10,9 +10,9 @@ use Rattle.bidtext.proofs.NameTexts.{every_first}
 use Rattle.std.proofs.lemmas.Slice.Eq.{bytes_eq-Decides}
 use Rattle.std.proofs.lemmas.List.{length-take, take-take, get_or-take, get_or-drop, get_or_past}
 use Rattle.std.proofs.lemmas.List.Sums.{prefix_len-le-length}
-use Rattle.std.proofs.lemmas.Bool.{cond-true, cond-false, cond_both, and_parts, and_from, not-true, cases_Bool, cases_lt, both_ways, le-leb, leb-true, eqb-true, eq-eqb}
+use Rattle.std.proofs.lemmas.Bool.{cond-true, cond-false, cond_both, and_parts, and_from, not-true, cases_Bool, cases_lt, both_ways, le-leb, leb-true, eqb-true}
 use Rattle.std.proofs.lemmas.Bool.Decides.{nat_tests}
-use Rattle.std.specs.List.{flat_map, AllByRecursion as All}
+use Rattle.std.specs.List.{flat_map, AllByRecursion}
 
 -- eight bytes, one by one
 pub data Eight : List ℕ → Type 0 where
@@ -120,14 +120,14 @@ byte_back b h =
     let low = digit_back (b % 16) (omega arith) in
     omega arith
 
-pub pairs_hex : (bs : List ℕ) → All (λ b. b < 256) bs → every Hex (flat_map hex_pair bs) ≡ true
+pub pairs_hex : (bs : List ℕ) → AllByRecursion (λ b. b < 256) bs → every Hex (flat_map hex_pair bs) ≡ true
 pairs_hex [] small = refl
 pairs_hex (b ∷ bs) small =
     let byte : b < 256 = small.0 in
     and_from (is_letter Hex (hex_digit (b / 16))) (is_letter Hex (hex_digit (b % 16)) && every Hex (flat_map hex_pair bs)) (digit_hex (b / 16) (omega arith))
     (and_from (is_letter Hex (hex_digit (b % 16))) (every Hex (flat_map hex_pair bs)) (digit_hex (b % 16) (omega arith)) (pairs_hex bs small.1))
 
-hex_reads : (bs : List ℕ) → Eight bs → All (λ b. b < 256) bs → hex_name (flat_map hex_pair bs) ≡ Ok bs
+hex_reads : (bs : List ℕ) → Eight bs → AllByRecursion (λ b. b < 256) bs → hex_name (flat_map hex_pair bs) ≡ Ok bs
 hex_reads bs (eight a b c d e f g h) small =
     let p = byte_back a small.0 in
     let q = byte_back b small.1.0 in
@@ -142,7 +142,7 @@ hex_reads bs (eight a b c d e f g h) small =
     cond-true (every Hex ds) _ (Err expected.Name) (pairs_hex (a ∷ (b ∷ (c ∷ (d ∷ (e ∷ (f ∷ (g ∷ (h ∷ [])))))))) small) ∙ ap (λ (x : List ℕ). Ok x) same
 
 -- a name is read as itself
-pub name_reads : (bs : List ℕ) → length bs ≡ 8 → All (λ b. b < 256) bs → name_in (name_word bs) ≡ Ok bs
+pub name_reads : (bs : List ℕ) → length bs ≡ 8 → AllByRecursion (λ b. b < 256) bs → name_in (name_word bs) ≡ Ok bs
 unfolding name_in name_word
 name_reads bs l small =
     cond_both (is_plain bs) (take (marks bs) bs) (codes "hex:" ++ flat_map hex_pair bs) (λ (w : List ℕ). name_in w ≡ Ok bs)
@@ -154,7 +154,7 @@ mark_inner b e = grind (arith, nat_tests)
 hex_inner : (b : ℕ) → is_letter Hex b ≡ true → is_letter Inner b ≡ true
 hex_inner b e = grind (arith, nat_tests)
 
-pub name_field : (bs : List ℕ) → All (λ b. b < 256) bs → Field (name_word bs)
+pub name_field : (bs : List ℕ) → AllByRecursion (λ b. b < 256) bs → Field (name_word bs)
 unfolding name_word
 name_field bs small =
     cond_both (is_plain bs) (take (marks bs) bs) (codes "hex:" ++ flat_map hex_pair bs) Field

@@ -1,5 +1,5 @@
 -- Numbers that are read up to a limit. Assumes nothing.
-use Rattle.std.proofs.Common.{◌≡◌, ℕ, ◌+◌, ◌-◌, ◌*◌, ◌≤◌, min, List, [], ◌∷◌, arith}
+use Rattle.std.proofs.Common.{◌≡◌, ℕ, ◌+◌, ◌-◌, ◌*◌, min, List, [], ◌∷◌, arith}
 use Rattle.bidtext.specs.Values.{value_after}
 
 step : (m n d : ℕ) → min m 268435456 ≡ min n 268435456 → min (m * 10 + d) 268435456 ≡ min (n * 10 + d) 268435456

@@ -1,10 +1,10 @@
 -- How the first field of a line is cut off. Assumes nothing.
-use Rattle.std.proofs.Common.{◌≡◌, ℕ, zero, suc, ◌+◌, Bool, true, false, cond, eqb, List, [], ◌∷◌, ◌++◌, length, get_or, take, drop, sym, refl, ap, ◌∙◌, subst, add-one, one-add, arith}
+use Rattle.std.proofs.Common.{◌≡◌, ℕ, zero, suc, ◌+◌, Bool, true, false, cond, eqb, List, [], ◌∷◌, take, drop, sym, refl, ap, ◌∙◌, subst, add-one, one-add, arith}
 use Rattle.bidtext.specs.declared.letters.Letter.{Letter}
 use Rattle.bidtext.specs.declared.letters.Letter.TheVariants.{Blank, Inner}
 use Rattle.bidtext.specs.Fields.{onto, pieces, filled, fields, field_at, after}
 use Rattle.bidtext.specs.Letters.{blank, is_letter}
-use Rattle.std.proofs.lemmas.Bool.{cond-true, cond-false, cond_both, both_ways}
+use Rattle.std.proofs.lemmas.Bool.{cond-true, cond-false, cond_both}
 use Rattle.std.proofs.lemmas.Bool.Decides.{nat_tests}
 use Rattle.std.specs.List.{prefix_len}
 

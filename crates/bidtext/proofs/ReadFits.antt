@@ -1,7 +1,7 @@
 -- A record that was read can be written. Assumes nothing.
-use Rattle.std.proofs.Common.{◌≡◌, ℕ, ◌+◌, ◌*◌, ◌<◌, Bool, true, false, cond, ◌&&◌, eqb, ltb, leb, List, [], ◌∷◌, length, get_or, drop, Some, None, Ok, Err, codes, Option, Result, sym, refl, ap, subst, ⊎_elim, arith}
-use Rattle.bidfile.specs.Items.{Item, terms, corner, unit, exit, years}
-use Rattle.bidfile.specs.Layout.{Fits, values_of}
+use Rattle.std.proofs.Common.{◌≡◌, ℕ, ◌+◌, ◌*◌, ◌<◌, true, ◌&&◌, eqb, ltb, leb, List, length, get_or, drop, Some, None, Ok, Err, codes, Result, refl, ⊎_elim, arith}
+use Rattle.bidfile.specs.Items.{terms, corner, exit, years}
+use Rattle.bidfile.specs.Layout.{Fits}
 use Rattle.bidtext.specs.declared.expected.Expected.{Expected}
 use Rattle.bidtext.specs.declared.expected.Expected.TheVariants as expected
 use Rattle.bidtext.specs.declared.letters.Letter.TheVariants.{Hex, Mark}
@@ -9,16 +9,16 @@ use Rattle.bidtext.specs.declared.owned.OwnRecord.{OwnRecord}
 use Rattle.bidtext.specs.declared.owned.OwnRecord.TheVariants as own
 use Rattle.bidtext.specs.declared.owned.OwnRecord.TheVariants.{Terms, Corner, Exit, Years, StepBack, Close}
 use Rattle.bidtext.specs.Fields.{fields, field_at}
-use Rattle.bidtext.specs.Letters.{is_letter, every}
-use Rattle.bidtext.specs.Lines.{and_then, labelled, terms_line, pair_line, corner_line, unit_line, exit_line, years_line, entry_in, record_in, fields_record, line_record}
-use Rattle.bidtext.specs.Names.{padded, is_hexed, hex_value, hex_byte, hex_name, plain_name, name_in}
+use Rattle.bidtext.specs.Letters.{every}
+use Rattle.bidtext.specs.Lines.{and_then, labelled, terms_line, pair_line, corner_line, unit_line, exit_line, years_line, entry_in, record_in, line_record}
+use Rattle.bidtext.specs.Names.{padded, is_hexed, hex_byte, hex_name, plain_name, name_in}
 use Rattle.bidtext.specs.RoundTrip.{own_item, Fitting}
 use Rattle.bidtext.specs.Values.{value_of, numeral, number_in, keyword, curve_in, order_in, maker_in, class_in, nothing_in}
 use Rattle.bidtext.proofs.NameFields.{every_at, hex_small}
 use Rattle.std.proofs.lemmas.List.{get_or_default, get_or_past}
 use Rattle.std.proofs.lemmas.Bool.{cond_both, and_parts, eqb-true, cases_lt}
 use Rattle.std.proofs.lemmas.Bool.Decides.{nat_tests}
-use Rattle.std.specs.List.{AllByRecursion as All}
+use Rattle.std.specs.List.{AllByRecursion}
 use Rattle.std.specs.Str.{bytes_eq}
 
 -- what holds of a part that was read, if it was read
@@ -58,7 +58,7 @@ labelled_small fs place word e =
     if_then (λ _. Unit {0}) Small (keyword word e (field_at fs place)) _ (any (keyword word e (field_at fs place))) (λ _ _. number_small (field_at fs (place + 1)))
 
 abbrev NamedBytes : List ℕ → Type 0
-NamedBytes bs = (length bs ≡ 8) × All (λ b. b < 256) bs
+NamedBytes bs = (length bs ≡ 8) × AllByRecursion (λ b. b < 256) bs
 
 mark_at : (f : List ℕ) (k : ℕ) → every Mark f ≡ true → get_or f k 32 < 256
 mark_at f k all =

@@ -1,5 +1,5 @@
 -- A text that is read line by line. Assumes nothing.
-use Rattle.std.proofs.Common.{◌≡◌, ℕ, suc, ◌+◌, ◌<◌, ◌≤◌, Bool, true, false, cond, eqb, List, [], ◌∷◌, ◌++◌, length, take, drop, Ok, Err, Result, sym, refl, ap, ◌∙◌, subst, ⊎_elim, append_assoc, append-nil, add-one, one-add, arith}
+use Rattle.std.proofs.Common.{◌≡◌, ℕ, suc, ◌+◌, ◌<◌, ◌≤◌, Bool, true, false, eqb, List, [], ◌∷◌, ◌++◌, length, take, drop, Ok, Err, Result, sym, refl, ap, ◌∙◌, subst, ⊎_elim, append_assoc, append-nil, add-one, arith}
 use Rattle.bidfile.specs.Found.{found}
 use Rattle.bidfile.specs.Items.{Item}
 use Rattle.bidfile.specs.Layout.{Fits, layout, ReadsBack}
@@ -9,12 +9,11 @@ use Rattle.bidtext.specs.declared.faults.TextFault.TheVariants.{Line, Memory}
 use Rattle.bidtext.specs.declared.letters.Letter.TheVariants as letter
 use Rattle.bidtext.specs.Fields.{onto}
 use Rattle.bidtext.specs.Files.{rows, line_items, then_lines, items_from, text_items, WordsOf, LineAdded, TextRead}
-use Rattle.bidtext.specs.Letters.{is_letter}
 use Rattle.bidtext.proofs.JoinedLists.{joined_append, all_append}
 use Rattle.bidtext.proofs.Pieces.{lead, lead_yes, lead_no}
 use Rattle.std.proofs.lemmas.Bool.{cond-true, cond-false, cases_lt}
 use Rattle.std.proofs.lemmas.Bool.Decides.{nat_tests}
-use Rattle.std.specs.List.{flat_map, AllByRecursion as All}
+use Rattle.std.specs.List.{flat_map, AllByRecursion}
 
 -- the first row is what comes before the first newline; the others are those of what follows it
 abbrev Row : List ℕ → ℕ → Type 0
@@ -45,7 +44,7 @@ before xs (Err f) = Err f
 -- what was read so far of a text, up to a line with a number, and what is left
 pub record SoFar (text : List ℕ) (n : ℕ) (rest words : List ℕ) : Type 0 where
   pub items : List Item
-  pub fit : All Fits items
+  pub fit : AllByRecursion Fits items
   pub words_are : words ≡ flat_map layout items
   pub left : before items (items_from n (rows rest)) ≡ text_items text
   pub count : n + length rest ≤ 1 + length text
@@ -76,7 +75,7 @@ module _ (text : List ℕ) (n : ℕ) (rest words : List ℕ) (s : SoFar text n r
   more_words new xs added =
       added ∙ ap (λ (w : List ℕ). w ++ flat_map layout xs) s.words_are ∙ sym (joined_append layout s.items xs)
 
-  pub next : (end : ℕ) (after new : List ℕ) (xs : List Item) → end ≡ lead letter.Line rest → end < length rest → after ≡ drop (end + 1) rest → length after + (end + 1) ≡ length rest → line_items (take end rest) ≡ Ok xs → All Fits xs → new ≡ words ++ flat_map layout xs → SoFar text (n + 1) after new
+  pub next : (end : ℕ) (after new : List ℕ) (xs : List Item) → end ≡ lead letter.Line rest → end < length rest → after ≡ drop (end + 1) rest → length after + (end + 1) ≡ length rest → line_items (take end rest) ≡ Ok xs → AllByRecursion Fits xs → new ≡ words ++ flat_map layout xs → SoFar text (n + 1) after new
   next end after new xs is-end lt is-after long is fits added =
       let cut : rows rest ≡ take end rest ∷ rows after = (subst (Row rest) (sym is-end) (row rest)).1 lt ∙ ap (λ (l : List ℕ). take end rest ∷ rows l) (ap (λ (k : ℕ). drop k rest) (sym (add-one end)) ∙ sym is-after) in
       let small = s.count in
@@ -88,7 +87,7 @@ module _ (text : List ℕ) (n : ℕ) (rest words : List ℕ) (s : SoFar text n r
         count = omega arith;
       }
 
-  pub last : ReadsBack → (end : ℕ) (new : List ℕ) (xs : List Item) → end ≡ lead letter.Line rest → end ≡ length rest → line_items (take end rest) ≡ Ok xs → All Fits xs → new ≡ words ++ flat_map layout xs → (items : List Item) × (text_items text ≡ Ok items) × WordsOf items new
+  pub last : ReadsBack → (end : ℕ) (new : List ℕ) (xs : List Item) → end ≡ lead letter.Line rest → end ≡ length rest → line_items (take end rest) ≡ Ok xs → AllByRecursion Fits xs → new ≡ words ++ flat_map layout xs → (items : List Item) × (text_items text ≡ Ok items) × WordsOf items new
   last back end new xs is-end whole is fits added =
       let cut : rows rest ≡ take end rest ∷ [] = (subst (Row rest) (sym is-end) (row rest)).0 (omega arith) in
       let all = all_append Fits s.items xs s.fit fits in

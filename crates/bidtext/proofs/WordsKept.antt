@@ -1,12 +1,12 @@
 -- Of words that were written for records, all is kept. Assumes nothing.
-use Rattle.std.proofs.Common.{◌≡◌, ℕ, ◌+◌, ◌*◌, ◌%◌, ◌≤◌, true, ◌&&◌, eqb, leb, List, [], ◌∷◌, ◌++◌, length, IfOk, Some, None, Option, Result, sym, refl, ap, ◌∙◌, subst, arith}
-use Rattle.bidfile.specs.Found.{Found, found, length_questions}
+use Rattle.std.proofs.Common.{◌≡◌, ℕ, ◌+◌, ◌%◌, ◌≤◌, true, ◌&&◌, eqb, leb, List, [], ◌∷◌, length, IfOk, Some, None, Option, Result, refl, ap, ◌∙◌, subst, arith}
+use Rattle.bidfile.specs.Found.{Found, length_questions}
 use Rattle.bidfile.specs.Items.{Item, terms, corner, unit, exit, years, step_back, close, item_kind, size}
 use Rattle.bidfile.specs.Layout.{Fits, layout, in_places, ReadsBack}
 use Rattle.curve.specs.Questions.{first_no}
 use Rattle.std.proofs.lemmas.List.{length-append}
 use Rattle.std.proofs.lemmas.Bool.{cond-true, and_from, eq-eqb, le-leb}
-use Rattle.std.specs.List.{flat_map, AllByRecursion as All}
+use Rattle.std.specs.List.{flat_map, AllByRecursion}
 use Rattle.bidtext.specs.declared.listed.Listed.{Listed}
 use Rattle.bidtext.specs.Kept.{kept, length_kept, file_kept, text_line, with_text, listed_said}
 use Rattle.bidtext.specs.WholeTrip.{WordsKept}
@@ -37,7 +37,7 @@ length_one (years y) f = refl
 length_one step_back f = refl
 length_one close f = refl
 
-length_all : (items : List Item) → All Fits items → length (flat_map layout items) % 4 ≡ 0
+length_all : (items : List Item) → AllByRecursion Fits items → length (flat_map layout items) % 4 ≡ 0
 length_all [] f = refl
 length_all (item ∷ items) f =
     let here = length_one item f.0 in
@@ -53,7 +53,7 @@ words_kept back items f short =
     ap (λ (o : Option ℕ). length_kept o bytes) whole ∙ ap kept (back items f) ∙ kept_places 0 items
 
 -- so the text of such words is the lines of those records
-pub text_back : {E : Type 0} → ReadsBack → (file : List ℕ) (r : Result Listed E) → IfOk r (λ l. listed_said l ≡ with_text [] (file_kept file)) → (items : List Item) → All Fits items → file ≡ flat_map layout items → length file ≤ 65532 → IfOk r (λ l. listed_said l ≡ (flat_map text_line items, None))
+pub text_back : {E : Type 0} → ReadsBack → (file : List ℕ) (r : Result Listed E) → IfOk r (λ l. listed_said l ≡ with_text [] (file_kept file)) → (items : List Item) → AllByRecursion Fits items → file ≡ flat_map layout items → length file ≤ 65532 → IfOk r (λ l. listed_said l ≡ (flat_map text_line items, None))
 text_back back file r h items f same short =
     let fits : length (flat_map layout items) ≤ 65532 = omega (arith, ap length same) in
     subst (λ (k : List Item × Option (ℕ × ℕ)). IfOk r (λ l. listed_said l ≡ with_text [] k)) (ap file_kept same ∙ words_kept back items f fits) h

@@ -4,7 +4,7 @@ use Rattle.bidfile.specs.Found.{found}
 use Rattle.bidfile.specs.Items.{Item}
 use Rattle.bidfile.specs.Layout.{Fits, layout, in_places}
 use Rattle.std.specs.declared.alloc.Global.{Global}
-use Rattle.std.specs.List.{flat_map, AllByRecursion as All}
+use Rattle.std.specs.List.{flat_map, AllByRecursion}
 use Rattle.bidtext.specs.declared.expected.Expected.{Expected}
 use Rattle.bidtext.specs.declared.faults.TextFault.{TextFault}
 use Rattle.bidtext.specs.declared.faults.TextFault.TheVariants.{Line, Memory}
@@ -42,14 +42,14 @@ text_items text = items_from 1 (rows text)
 
 -- words that were written for records: a reader finds these again, and nothing else
 pub record WordsOf (items : List Item) (words : List ℕ) : Type 0 where
-  pub fit : All Fits items
+  pub fit : AllByRecursion Fits items
   pub words_are : words ≡ flat_map layout items
   pub found_are : found words 0 ≡ in_places 0 items
 
 -- the words before and after a line was added: those of its records come after the others
 abbrev pub LineAdded : List ℕ → ℕ → List ℕ → List ℕ → Result (Unit {0}) TextFault → Type 0
 LineAdded line n before after (Ok u) =
-    (items : List Item) × (line_items line ≡ Ok items) × All Fits items × (after ≡ before ++ flat_map layout items)
+    (items : List Item) × (line_items line ≡ Ok items) × AllByRecursion Fits items × (after ≡ before ++ flat_map layout items)
 LineAdded line n before after (Err (Line m e)) = (m ≡ n) × (line_items line ≡ Err e)
 LineAdded line n before after (Err Memory) = Unit {0}
 

@@ -1,5 +1,5 @@
 -- What is kept of a file of words as text: its records up to its damage, and the damage. Assumes nothing.
-use Rattle.std.specs.Prelude.{◌≡◌, ℕ, List, [], ◌∷◌, ◌++◌, Some, None, Ok, Err, string_bytes, Option, Result}
+use Rattle.std.specs.Prelude.{ℕ, List, [], ◌∷◌, ◌++◌, Some, None, Ok, Err, string_bytes, Option, Result}
 use Rattle.bidfile.specs.declared.fault.FileFault.{FileFault}
 use Rattle.bidfile.specs.Found.{Found, found, known_kind, is_some, length_questions}
 use Rattle.bidfile.specs.Items.{Item}

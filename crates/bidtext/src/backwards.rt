@@ -2,7 +2,7 @@ ghost use Rattle.std.specs.Prelude.{◌≡◌, ◌≤◌, List, [], ◌++◌, le
 ghost use Rattle.bidfile.specs.Found.{found};
 ghost use Rattle.bidfile.specs.Items.{Item, item_of};
 ghost use Rattle.bidfile.specs.Layout.{Fits, layout};
-ghost use Rattle.std.specs.List.{flat_map, AllByRecursion as All};
+ghost use Rattle.std.specs.List.{flat_map, AllByRecursion};
 ghost use Rattle.bidfile.specs.Reading.{told, Moved};
 ghost use Rattle.bidtext.specs.Kept.{handed_any, kept, file_kept, text_line, with_text, listed_said};
 
@@ -14,7 +14,7 @@ use std::alloc::{AllocError, Global};
 // The next record, whoever's turn it is: the terms are in turn where all others are not.
 fn next_record<'a>(reader: &mut Reader<'a>) -> Result<Option<Placed<'a>>, FileFault>
     ensures answer { told result ≡ handed_any (found reader.old.file.now reader.old.at) }
-    ensures file { reader.new.file.ghost_name ≡ reader.old.file.ghost_name }
+    ensures file { reader.new.file ≡ reader.old.file }
     ensures bytes { reader.new.file.now ≡ reader.old.file.now }
     ensures place { Moved reader.old.file.now reader.old.at reader.new.at result }
 {
@@ -62,7 +62,7 @@ fn list(heap: Global, file: &[u8]) -> Result<Listed, AllocError>
 // The text of a file of words, a record a line, up to its damage.
 pub fn words_text(heap: Global, file: &[u8]) -> Result<Listed, AllocError>
     ensures value { IfOk result (λ l. listed_said l ≡ with_text [] (file_kept file.now)) }
-    ensures back { (items : List Item) → All Fits items → file.now ≡ flat_map layout items → length file.now ≤ 65532 → IfOk result (λ l. listed_said l ≡ (flat_map text_line items, None)) }
+    ensures back { (items : List Item) → AllByRecursion Fits items → file.now ≡ flat_map layout items → length file.now ≤ 65532 → IfOk result (λ l. listed_said l ≡ (flat_map text_line items, None)) }
 {
     layout_holds();
     let reader = Reader::new(file);

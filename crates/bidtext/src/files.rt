@@ -3,7 +3,7 @@ ghost use Rattle.bidfile.specs.Items.{Item};
 ghost use Rattle.bidfile.specs.Layout.{Fits};
 ghost use Rattle.bidtext.specs.Files.{LineAdded, TextRead, TextOf};
 ghost use Rattle.bidtext.specs.Kept.{text_line};
-ghost use Rattle.std.specs.List.{flat_map, AllByRecursion as All};
+ghost use Rattle.std.specs.List.{flat_map, AllByRecursion};
 
 use crate::faults::TextFault;
 use crate::layouts::push_record;
@@ -32,7 +32,7 @@ fn add_line(words: &mut Vec<u8>, line: &[u8], number: usize) -> Result<(), TextF
 // The words of a text, or its first line that cannot be read.
 pub fn text_words(heap: Global, text: &[u8]) -> Result<Vec<u8>, TextFault>
     ensures value { TextRead text.now result }
-    ensures back { (items : List Item) → All Fits items → text.now ≡ flat_map text_line items → TextOf items result }
+    ensures back { (items : List Item) → AllByRecursion Fits items → text.now ≡ flat_map text_line items → TextOf items result }
 {
     let mut words = Vec::new(heap);
     let mut rest = text;

@@ -1,4 +1,5 @@
 // Bid files as plain text: a record a line, and back.
+#![tactic(auto)]
 
 mod backwards;
 mod expected;

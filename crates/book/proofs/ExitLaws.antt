@@ -1,6 +1,6 @@
 -- Laws of the exits up to a cap: how many they are, their prices, and their capacity. Assumes nothing.
 use Rattle.std.proofs.Common.{◌≡◌, ℕ, ◌+◌, ◌<◌, ◌≤◌, true, cond, leb, List, [], ◌∷◌, length, Some, None, sum_by, Option, refl, ap, arith}
-use Rattle.std.specs.List.{AllByRecursion as All}
+use Rattle.std.specs.List.{AllByRecursion}
 use Rattle.std.proofs.lemmas.List.Sums.{sum_by-cons}
 use Rattle.std.proofs.lemmas.Bool.{cond_both, leb-true}
 use Rattle.book.specs.declared.unit.Unit.{Unit as Row}
@@ -26,27 +26,27 @@ exits_few top n (u ∷ us) =
     let rest = exits_few top (n + 1) us in
     exits_by top n u us (λ (es : List Leaving). length es ≤ length (u ∷ us)) (omega arith) (λ price below e. omega arith)
 
-pub exits_priced : (top n : ℕ) (us : List Row) → All (λ (e : Leaving). e.price ≤ top) (exits_up_to top n us)
+pub exits_priced : (top n : ℕ) (us : List Row) → AllByRecursion (λ (e : Leaving). e.price ≤ top) (exits_up_to top n us)
 exits_priced top n [] = tt
 exits_priced top n (u ∷ us) =
     let rest = exits_priced top (n + 1) us in
-    exits_by top n u us (λ (es : List Leaving). All (λ (e : Leaving). e.price ≤ top) es) rest (λ price below e. (below, rest))
+    exits_by top n u us (λ (es : List Leaving). AllByRecursion (λ (e : Leaving). e.price ≤ top) es) rest (λ price below e. (below, rest))
 
 -- they are of units that exist
-pub exits_numbered : (top n : ℕ) (us : List Row) → All (λ (e : Leaving). (n ≤ e.unit) × (e.unit < n + length us)) (exits_up_to top n us)
+pub exits_numbered : (top n : ℕ) (us : List Row) → AllByRecursion (λ (e : Leaving). (n ≤ e.unit) × (e.unit < n + length us)) (exits_up_to top n us)
 exits_numbered top n us = within top n n (n + length us) us (omega arith) (omega arith)
   where
-    within : (top n from to : ℕ) (us : List Row) → from ≤ n → n + length us ≤ to → All (λ (e : Leaving). (from ≤ e.unit) × (e.unit < to)) (exits_up_to top n us)
+    within : (top n from to : ℕ) (us : List Row) → from ≤ n → n + length us ≤ to → AllByRecursion (λ (e : Leaving). (from ≤ e.unit) × (e.unit < to)) (exits_up_to top n us)
     within top n from to [] low high = tt
     within top n from to (u ∷ us) low high =
         let rest = within top (n + 1) from to us (omega arith) (omega arith) in
-        exits_by top n u us (λ (es : List Leaving). All (λ (e : Leaving). (from ≤ e.unit) × (e.unit < to)) es) rest (λ price below e. ((low, omega arith), rest))
+        exits_by top n u us (λ (es : List Leaving). AllByRecursion (λ (e : Leaving). (from ≤ e.unit) × (e.unit < to)) es) rest (λ price below e. ((low, omega arith), rest))
 
-pub exits_large : (top n : ℕ) (us : List Row) → lawful_units us ≡ true → All (λ (e : Leaving). 1000 ≤ e.capacity) (exits_up_to top n us)
+pub exits_large : (top n : ℕ) (us : List Row) → lawful_units us ≡ true → AllByRecursion (λ (e : Leaving). 1000 ≤ e.capacity) (exits_up_to top n us)
 exits_large top n [] h = tt
 exits_large top n (u ∷ us) h =
     let rest = exits_large top (n + 1) us (rest_lawful u us h) in
-    exits_by top n u us (λ (es : List Leaving). All (λ (e : Leaving). 1000 ≤ e.capacity) es) rest (λ price below e. ((unit_capacity u (first_lawful u us h)).0, rest))
+    exits_by top n u us (λ (es : List Leaving). AllByRecursion (λ (e : Leaving). 1000 ≤ e.capacity) es) rest (λ price below e. ((unit_capacity u (first_lawful u us h)).0, rest))
 
 out_whole : (u : Row) (price : ℕ) → u.standing.exit ≡ Some price → out_kw u ≡ u.enrolled.capacity
 out_whole u price e = ap (λ (o : Option ℕ). elim o [ None ↦ 0 | Some p ↦ u.enrolled.capacity ]) e

@@ -5,6 +5,7 @@ mod failure;
 use failure::Failure;
 use rehearsal::{Storage, rehearse};
 use std::io::{BufWriter, Read, Write};
+use std::process::ExitCode;
 
 // One byte more than a bid file may have, so that a longer one is seen to be too long and is read no further.
 const MOST_READ: u64 = 65_533;
@@ -18,7 +19,9 @@ fn read_file(rt: &HostRuntime) -> Result<Vec<u8>, Failure> {
 }
 
 fn print_listing(rt: &HostRuntime, file: &[u8], storage: Storage) -> Result<(), Failure> {
-    let mut out = BufWriter::new(rt.stdout());
+    let Ok(mut out) = BufWriter::new(rt.alloc(), rt.stdout()) else {
+        return Err(Failure::Memory);
+    };
     let mut run = rehearse(file, storage);
     while let Some(line) = run.next_line() {
         if writeln!(out, "{line}").is_err() {
@@ -39,10 +42,12 @@ fn run(rt: &HostRuntime) -> Result<(), Failure> {
     print_listing(rt, file.as_slice(), storage)
 }
 
-fn main(rt: HostRuntime) -> Result<(), Failure> {
-    let result = run(&rt);
-    if let Err(failure) = result {
-        let _ = rt.eprintln(failure);
+fn main(rt: HostRuntime) -> ExitCode {
+    match run(&rt) {
+        Ok(()) => ExitCode::SUCCESS,
+        Err(failure) => {
+            let _ = rt.eprintln(failure);
+            ExitCode::FAILURE
+        }
     }
-    result
 }

@@ -1,6 +1,6 @@
 -- How the premise is met: from a ranking of exits of which enough is known in any order, exit by exit, or by a test.
 use Rattle.std.proofs.Common.{◌≡◌, ℕ, zero, suc, ◌+◌, ◌≤◌, Bool, true, ◌&&◌, leb, List, [], ◌∷◌, get_or, sum_by, refl, le_trans, le_refl, le_of_suc-le-suc, arith}
-use Rattle.std.specs.List.{AllByRecursion as All}
+use Rattle.std.specs.List.{AllByRecursion}
 use Rattle.std.specs.List.Sorted.{IsNonDecreasingBy, IsPermutation}
 use Rattle.std.proofs.ByRecursion.{All-get_or, All-weaker, all_shuffled}
 use Rattle.std.proofs.lemmas.List.Sorted.{sum_by-IsPermutation}
@@ -11,7 +11,7 @@ use Rattle.ranking.specs.declared.exits.Exit.{Exit}
 use Rattle.clearing.specs.Premise.{Clearable, top_price}
 
 -- The exits in any order give all but the rising prices, which the ranking gives.
-pub clearable_ranked : (floor s0 : ℕ) (items ranked : List Exit) → IsPermutation items ranked → IsNonDecreasingBy (λ e. e.price) ranked → floor ≤ top_price → All (λ e. e.price ≤ top_price) items → All (λ e. floor ≤ e.price) items → All (λ e. 1 ≤ e.capacity) items → s0 + sum_by (λ e. e.capacity) items ≤ ceiling → Clearable floor s0 ranked
+pub clearable_ranked : (floor s0 : ℕ) (items ranked : List Exit) → IsPermutation items ranked → IsNonDecreasingBy (λ e. e.price) ranked → floor ≤ top_price → AllByRecursion (λ e. e.price ≤ top_price) items → AllByRecursion (λ e. floor ≤ e.price) items → AllByRecursion (λ e. 1 ≤ e.capacity) items → s0 + sum_by (λ e. e.capacity) items ≤ ceiling → Clearable floor s0 ranked
 clearable_ranked floor s0 items ranked same rises low most least some room =
     record {
       floor_most = low;

@@ -1,6 +1,6 @@
 -- Where a settlement stops, and at which prices the awarded exits and the others left.
 use Rattle.std.proofs.Common.{◌≡◌, ℕ, zero, suc, ◌+◌, ◌≤◌, List, [], ◌∷◌, length, take, drop, sym, ap, ◌∙◌, subst, le_of_suc-le-suc, arith}
-use Rattle.std.specs.List.{AllByRecursion as All}
+use Rattle.std.specs.List.{AllByRecursion}
 use Rattle.curve.specs.Meaning.{Meaning}
 use Rattle.curve.specs.Words.{Words}
 use Rattle.ranking.specs.declared.exits.Exit.{Exit}
@@ -42,7 +42,7 @@ module _ (m : Meaning) (words : Words m) (floor s0 : ℕ) (exits : List Exit) (o
   )
 
 -- the exits up to any place left at or below its price, those behind it at or above it
-split_by_price : (floor s0 : ℕ) (exits : List Exit) → Clearable floor s0 exits → (k : ℕ) → k ≤ length exits → All (λ e. e.price ≤ price_at floor exits k) (take k exits) × All (λ e. price_at floor exits k ≤ e.price) (drop k exits)
+split_by_price : (floor s0 : ℕ) (exits : List Exit) → Clearable floor s0 exits → (k : ℕ) → k ≤ length exits → AllByRecursion (λ e. e.price ≤ price_at floor exits k) (take k exits) × AllByRecursion (λ e. price_at floor exits k ≤ e.price) (drop k exits)
 split_by_price floor s0 exits ok zero le = (tt, ok.prices_least)
 split_by_price floor s0 [] ok (suc k) le = absurd (omega arith)
 split_by_price floor s0 (e ∷ es) ok (suc k) le =
@@ -53,5 +53,5 @@ split_by_price floor s0 (e ∷ es) ok (suc k) le =
 -- of the ground nothing is used but that it stops at a place of the round
 pub awards_below : (floor s0 : ℕ) (exits : List Exit) → Clearable floor s0 exits → (s : Settlement) → s.stop ≤ length exits → s.price ≡ price_at floor exits s.stop → AwardsBelow exits s
 awards_below floor s0 exits ok s le is =
-    subst (λ (p : ℕ). All (λ e. e.price ≤ p) (take s.stop exits) × All (λ e. p ≤ e.price) (drop s.stop exits)) (sym is)
+    subst (λ (p : ℕ). AllByRecursion (λ e. e.price ≤ p) (take s.stop exits) × AllByRecursion (λ e. p ≤ e.price) (drop s.stop exits)) (sym is)
     (split_by_price floor s0 exits ok s.stop le)

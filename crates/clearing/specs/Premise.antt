@@ -1,6 +1,6 @@
 -- What the clearing of a round rests on. Assumes nothing.
 use Rattle.std.specs.Prelude.{ℕ, ◌+◌, ◌*◌, ◌^◌, ◌<◌, ◌≤◌, List, sum_by}
-use Rattle.std.specs.List.{AllByRecursion as All}
+use Rattle.std.specs.List.{AllByRecursion}
 use Rattle.std.specs.List.Sorted.{IsNonDecreasingBy}
 use Rattle.curve.specs.Meaning.{ceiling}
 use Rattle.ranking.specs.declared.exits.Exit.{Exit}
@@ -14,10 +14,10 @@ top_price = 10000
 -- among equal prices nothing is asked.
 pub record Clearable (floor s0 : ℕ) (exits : List Exit) : Type 0 where
   pub floor_most : floor ≤ top_price
-  pub prices_most : All (λ e. e.price ≤ top_price) exits
-  pub prices_least : All (λ e. floor ≤ e.price) exits
+  pub prices_most : AllByRecursion (λ e. e.price ≤ top_price) exits
+  pub prices_least : AllByRecursion (λ e. floor ≤ e.price) exits
   pub prices_rise : IsNonDecreasingBy (λ e. e.price) exits
-  pub capacities : All (λ e. 1 ≤ e.capacity) exits
+  pub capacities : AllByRecursion (λ e. 1 ≤ e.capacity) exits
   pub room : s0 + sum_by (λ e. e.capacity) exits ≤ ceiling
 
 -- price and sum of a place are in their ranges, and so is what the sum costs

@@ -1,6 +1,6 @@
 -- What holds of every settlement. Assumes nothing.
 use Rattle.std.specs.Prelude.{◌≡◌, ℕ, ◌+◌, ◌*◌, ◌≤◌, List, length, take, drop, ℤ, pos, ◌-ℤ◌, ◌≤ℤ◌, Some, None, Option}
-use Rattle.std.specs.List.{AllByRecursion as All}
+use Rattle.std.specs.List.{AllByRecursion}
 use Rattle.curve.specs.Meaning.{Meaning}
 use Rattle.ranking.specs.declared.exits.Exit.{Exit}
 use Rattle.clearing.specs.declared.ground.Ground.{Ground}
@@ -34,7 +34,7 @@ StopsNear m floor s0 exits s =
 
 -- the awarded exits left at or below the clearing price, all others at or above it
 abbrev pub AwardsBelow : List Exit → Settlement → Type 0
-AwardsBelow exits s = All (λ e. e.price ≤ s.price) (take s.stop exits) × All (λ e. s.price ≤ e.price) (drop s.stop exits)
+AwardsBelow exits s = AllByRecursion (λ e. e.price ≤ s.price) (take s.stop exits) × AllByRecursion (λ e. s.price ≤ e.price) (drop s.stop exits)
 
 -- The buyer's gain of stopping at a place: the area under the curve up to the sum there, less what the place costs. It
 -- counts in the curve's parts.

@@ -2,7 +2,7 @@
 use Rattle.std.specs.Prelude.{◌≡◌, ℕ, ◌+◌, ◌-◌, ◌*◌, ◌<◌, ◌≤◌, List, [], ◌∷◌, nat_le, refl}
 use Rattle.std.proofs.Common.{ap, ◌∙◌, mul-le-mul_right, arith}
 use Rattle.std.proofs.lemmas.Bool.{cond-true, cond-false, le-leb, lt-leb}
-use Rattle.std.specs.List.{AllByRecursion as All}
+use Rattle.std.specs.List.{AllByRecursion}
 use Rattle.curve.specs.declared.side.Side.{Side}
 use Rattle.curve.specs.Meaning.{Meaning}
 use Rattle.curve.specs.Outline.{Fraction, width, side_price, price, height, widths, column, sum_to, outline}
@@ -37,7 +37,7 @@ height_price s x = let a : s.to * 1 - x ≡ s.to - x = omega arith in let b : x 
 -- f gives the columns past the place q, and `at` the prices there; t is the product of the widths before it
 along_all : (q p : ℕ) (ss : List Side) (m : Meaning) (f : ℕ → ℕ) (at : ℕ → ℕ → Fraction) (t all : ℕ) → m.area ≡ sum_to f
     → m.parts ≡ 2 * all → Falling q p ss → all ≡ t * widths ss → ((k : ℕ) → q < k → f k ≡ t * column ss k)
-    → ((n d : ℕ) → 1 ≤ d → q * d < n → at n d ≡ price ss n d) → All (Along m at) ss
+    → ((n d : ℕ) → 1 ≤ d → q * d < n → at n d ≡ price ss n d) → AllByRecursion (Along m at) ss
 along_all q p [] m f at t all area parts fall product columns prices = tt
 along_all q p (s ∷ ss) m f at t all area parts fall product columns prices =
     let x = fall.0 in
@@ -63,7 +63,7 @@ along_all q p (s ∷ ss) m f at t all area parts fall product columns prices =
           prices n d some (omega arith) ∙ cond-false (nat_le n (s.to * d)) (side_price s n d) (price ss n d) (lt-leb n (s.to * d) past)),
     )
 
-column_none : (ss : List Side) (x k : ℕ) → All (λ s. s.to ≤ x) ss → x < k → column ss k ≤ 0
+column_none : (ss : List Side) (x k : ℕ) → AllByRecursion (λ s. s.to ≤ x) ss → x < k → column ss k ≤ 0
 column_none [] x k each past = omega arith
 column_none (s ∷ ss) x k each past =
     let e = column_later s ss 1 k (omega (arith, each.0)) in
@@ -72,7 +72,7 @@ column_none (s ∷ ss) x k each past =
     let z = ap (λ (c : ℕ). 1 * width s * c) n in
     omega arith
 
-level : (ss : List Side) (x y : ℕ) → All (λ s. s.to ≤ x) ss → x ≤ y → sum_to (column ss) y ≡ sum_to (column ss) x
+level : (ss : List Side) (x y : ℕ) → AllByRecursion (λ s. s.to ≤ x) ss → x ≤ y → sum_to (column ss) y ≡ sum_to (column ss) x
 level ss x y each le =
     let up = sum_most (column ss) 0 x y le (λ k lo hi. column_none ss x k each lo) in
     let down = sum_grows (column ss) x y le in

@@ -1,6 +1,6 @@
 -- What demand and area have to be, given the price at each place. Assumes nothing.
 use Rattle.std.specs.Prelude.{◌≡◌, ℕ, ◌+◌, ◌-◌, ◌*◌, ◌<◌, ◌≤◌, List}
-use Rattle.std.specs.List.{AllByRecursion as All}
+use Rattle.std.specs.List.{AllByRecursion}
 use Rattle.curve.specs.declared.side.Side.{Side}
 use Rattle.curve.specs.Meaning.{Meaning, area_between}
 use Rattle.curve.specs.Outline.{Fraction, price, side_price}
@@ -27,5 +27,5 @@ pub record Along (m : Meaning) (at : ℕ → ℕ → Fraction) (s : Side) : Type
 -- the running area is that under the price: it begins at 0, follows the price along each side, and is level past the last
 pub record AreaUnder (m : Meaning) (ss : List Side) : Type 0 where
   pub begins : m.area 0 ≡ 0
-  pub along : All (Along m (price ss)) ss
-  pub past : (x y : ℕ) → All (λ s. s.to ≤ x) ss → x ≤ y → m.area y ≡ m.area x
+  pub along : AllByRecursion (Along m (price ss)) ss
+  pub past : (x y : ℕ) → AllByRecursion (λ s. s.to ≤ x) ss → x ≤ y → m.area y ≡ m.area x

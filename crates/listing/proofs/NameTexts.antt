@@ -8,7 +8,7 @@ use Rattle.std.proofs.lemmas.Bool.{cond-true, cond-false}
 use Rattle.std.proofs.lemmas.Str.{encode_ascii}
 use Rattle.std.proofs.lemmas.Bool.Decides.{nat_tests}
 use Rattle.std.specs.declared.fmt.Formatter.{Formatter}
-use Rattle.std.specs.List.{AllByRecursion as All}
+use Rattle.std.specs.List.{AllByRecursion}
 use Rattle.std.specs.Fmt.{IsPlainFormatter, HasWritten}
 
 -- what a byte is printed as is what its character is written as
@@ -16,7 +16,7 @@ pub byte_char : (b : ℕ) → encode b ≡ byte_text b
 byte_char b = let e : b < 128 → encode b ≡ b ∷ [] = encode_ascii b in grind (arith, nat_tests)
 
 -- a name of bytes below 128, as every enrolled name is, is printed as its own bytes
-pub ascii_name : (bs : List ℕ) → All (λ b. b < 128) bs → name_text bs ≡ unpadded bs
+pub ascii_name : (bs : List ℕ) → AllByRecursion (λ b. b < 128) bs → name_text bs ≡ unpadded bs
 ascii_name [] low = refl
 ascii_name (b ∷ bs) low = let i = ascii_name bs low.1 in let l : b < 128 = low.0 in grind (arith, nat_tests)
 

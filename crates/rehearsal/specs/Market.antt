@@ -1,6 +1,6 @@
 -- What a listing says in the market's words: of the auction that the file opens, and of the calls made on it.
 -- Assumes nothing.
-use Rattle.std.specs.Prelude.{◌≡◌, ℕ, ◌+◌, Bool, true, false, cond, List, [], ◌∷◌, Some, None, Ok, Err, Option}
+use Rattle.std.specs.Prelude.{◌≡◌, ℕ, ◌+◌, cond, List, [], ◌∷◌, Some, None, Ok, Err, Option}
 use Rattle.std.specs.List.{flat_map}
 use Rattle.auction.specs.declared.calls.Answer.{Answer}
 use Rattle.auction.specs.declared.calls.Answer.TheVariants.{Refused, Enrolled, Begun, Entered, SteppedBack, ClosedShut, ClosedSettled, Opened}
@@ -17,7 +17,6 @@ use Rattle.bidfile.specs.Items.{Item}
 use Rattle.curve.specs.declared.corner.Corner.{Corner}
 use Rattle.curve.specs.Questions.{first_no}
 use Rattle.listing.specs.declared.fault.Layer.{Layer}
-use Rattle.listing.specs.declared.fault.Layer.TheVariants.{File}
 use Rattle.listing.specs.declared.line.Line.{Line}
 use Rattle.listing.specs.declared.line.Line.TheVariants.{Round, Refused as RefusedLine, Cleared, Award, Fault, Unsettled}
 use Rattle.rehearsal.specs.Events.{Event, made, faulted, unsettled, as_terms, as_corner, events}

@@ -23,7 +23,7 @@ fn advance<'a>(
 ) -> Result<(Progress, Option<Line>), Fault>
     requires { Running progress reader.old.at (words reader.old.file.now) }
     ensures lines { advanced_as result (found reader.old.file.now reader.new.at) ≡ lines_ahead progress (found reader.old.file.now reader.old.at) }
-    ensures file { reader.new.file.ghost_name ≡ reader.old.file.ghost_name }
+    ensures file { reader.new.file ≡ reader.old.file }
     ensures bytes { reader.new.file.now ≡ reader.old.file.now }
     ensures place { Further reader.old.at reader.new.at (words reader.old.file.now) result }
 {

@@ -1,4 +1,4 @@
-use Rattle.std.proofs.Common.{◌≡◌, ℕ, List, ◌++◌, string_bytes, ap, ◌∙◌, append_assoc, arith}
+use Rattle.std.proofs.Common.{ℕ, List, ◌++◌, string_bytes, ap, ◌∙◌, append_assoc, arith}
 use lib.Utf8.{encode}
 use Rattle.bidfile.specs.Items.{item_of}
 use Rattle.bidtext.specs.Texts.{line_text}

@@ -1,4 +1,4 @@
-use Rattle.std.proofs.Common.{◌≡◌, ℕ, List, [], IfOk, Some, Ok, Option, sym, ap, ◌∙◌, subst}
+use Rattle.std.proofs.Common.{◌≡◌, ℕ, List, [], IfOk, Some, Ok, Option, ap, ◌∙◌, subst}
 use Rattle.bidfile.specs.Found.{length_questions}
 use Rattle.bidfile.specs.Items.{Item}
 use Rattle.bidfile.specs.Reading.{fault_number, fault_of}

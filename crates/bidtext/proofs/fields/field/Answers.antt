@@ -1,4 +1,4 @@
-use Rattle.std.proofs.Common.{◌≡◌, ℕ, ◌+◌, List, [], get_or, drop, sym, ap, ◌∙◌, add-zero, arith}
+use Rattle.std.proofs.Common.{◌≡◌, ℕ, ◌+◌, List, [], ap, ◌∙◌, arith}
 use Rattle.bidtext.specs.Fields.{fields, field_at, after}
 use Rattle.bidtext.proofs.Pieces.{passed_more}
 use Rattle.bidtext.proofs.fields.field.Goals as goal

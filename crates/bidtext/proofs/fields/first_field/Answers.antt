@@ -1,4 +1,3 @@
-use Rattle.std.proofs.Common.{◌≡◌, ℕ, List, take, drop, sym, ap, ◌∙◌}
 use Rattle.bidtext.proofs.Pieces.{parted}
 use Rattle.bidtext.proofs.fields.first_field.Goals as goal
 use Rattle.std.proofs.lemmas.List.{take_rest}

@@ -1,4 +1,4 @@
-use Rattle.std.proofs.Common.{◌≡◌, sym, ap, ◌∙◌}
+use Rattle.std.proofs.Common.{ap, ◌∙◌}
 use Rattle.bidtext.specs.Fields.{fields}
 use Rattle.bidtext.proofs.Pieces.{parted}
 use Rattle.bidtext.proofs.fields.rest_of.Goals as goal

@@ -1,4 +1,4 @@
-use Rattle.std.proofs.Common.{◌≡◌, ℕ, List, [], ◌∷◌, ◌++◌, Ok, vec_items, Option, Result, sym, ap, ◌∙◌, subst, append-nil}
+use Rattle.std.proofs.Common.{ℕ, List, [], ◌∷◌, ◌++◌, Ok, vec_items, Option, Result, sym, ap, ◌∙◌, subst, append-nil}
 use Rattle.bidfile.specs.Layout.{layout}
 use Rattle.bidtext.specs.declared.expected.Expected.{Expected}
 use Rattle.bidtext.specs.declared.owned.OwnRecord.{OwnRecord}

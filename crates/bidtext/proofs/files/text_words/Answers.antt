@@ -1,4 +1,4 @@
-use Rattle.std.proofs.Common.{◌+◌, length, drop, Ok, Err, vec_items, ap, ◌∙◌, arith}
+use Rattle.std.proofs.Common.{◌+◌, length, Ok, Err, vec_items, ap, ◌∙◌, arith}
 use Rattle.bidtext.proofs.TextRows.{start, next, last, faulty}
 use Rattle.bidtext.proofs.LinesRead.{text_trip}
 use Rattle.bidtext.proofs.files.text_words.Goals as goal

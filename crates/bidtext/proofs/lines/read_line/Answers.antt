@@ -1,4 +1,4 @@
-use Rattle.std.proofs.Common.{◌≡◌, ℕ, List, Some, None, Ok, Err, Option, Result, sym, ap, ◌∙◌, subst, rules}
+use Rattle.std.proofs.Common.{◌≡◌, ℕ, List, Some, None, Ok, Option, Result, sym, ap, ◌∙◌, subst, rules}
 use Rattle.bidfile.specs.Items.{Item}
 use Rattle.bidfile.specs.Layout.{Fits}
 use Rattle.bidtext.specs.declared.expected.Expected.{Expected}

@@ -1,4 +1,4 @@
-use Rattle.std.proofs.Common.{◌≡◌, ℕ, ◌+◌, ◌-◌, ◌*◌, ◌<◌, ◌≤◌, min, length, get_or, drop, sym, refl, ap, ◌∙◌, arith}
+use Rattle.std.proofs.Common.{◌≡◌, ℕ, ◌+◌, ◌-◌, ◌*◌, min, get_or, drop, sym, ap, ◌∙◌, arith}
 use Rattle.bidtext.specs.Values.{value_after}
 use Rattle.bidtext.proofs.Numbers.{agree}
 use Rattle.bidtext.proofs.values.value.Goals as goal

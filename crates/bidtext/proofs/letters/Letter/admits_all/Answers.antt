@@ -1,4 +1,4 @@
-use Rattle.std.proofs.Common.{ℕ, eqb, length, sym, ap, ◌∙◌}
+use Rattle.std.proofs.Common.{ℕ, eqb, length, ap, ◌∙◌}
 use Rattle.bidtext.proofs.LetterCounts.{every_counted}
 use Rattle.bidtext.proofs.letters.Letter.admits_all.Goals as goal
 

@@ -1,4 +1,4 @@
-use Rattle.std.proofs.Common.{◌≡◌, true, false, get_or, sym, arith, rules}
+use Rattle.std.proofs.Common.{sym, arith}
 use Rattle.bidtext.specs.Letters.{is_letter}
 use Rattle.bidtext.proofs.letters.Letter.count.Goals as goal
 use Rattle.std.proofs.lemmas.List.Sums.{prefix_len-drop_yes, prefix_len-drop_no, prefix_len-drop_all}

@@ -13,7 +13,7 @@ pub invariant_of-self-in-Err : goal.invariant_of-self-in-Err
 invariant_of-self-in-Err c =
     let end = c.advance.new.reader.at in
     let n = words c.advance.new.reader.file.now in
-    (subst (λ (p : Coded). sound p end n ≡ true) (sym c.replace-progress.ensures.after) (sound_both coded.Over end n refl refl), tt)
+    record { kept = subst (λ (p : Coded). sound p end n ≡ true) (sym c.replace-progress.ensures.after) (sound_both coded.Over end n refl refl) }
 
 pub returns-in-Ok : goal.returns-in-Ok
 returns-in-Ok c =

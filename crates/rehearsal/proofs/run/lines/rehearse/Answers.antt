@@ -9,7 +9,7 @@ use Rattle.rehearsal.proofs.RunSteps.{short_file, listed_fault, listed_lines}
 use Rattle.rehearsal.proofs.run.lines.rehearse.Goals as goal
 
 pub invariant_of-result : goal.invariant_of-result
-invariant_of-result c = (sound_both coded.Over _ _ refl refl, tt)
+invariant_of-result c = record { kept = sound_both coded.Over _ _ refl refl }
 
 pub returns-in-Err : goal.returns-in-Err
 returns-in-Err c =
@@ -20,7 +20,7 @@ returns-in-Err c =
 pub invariant_of-result-2 : goal.invariant_of-result-2
 invariant_of-result-2 c =
     let reader = c.new-reader.result in
-    (sound_both (coded.Fresh c.args.storage) reader.at (words reader.file.now) (short_file reader.file.now c.in_default.ensures.refusal) refl, tt)
+    record { kept = sound_both (coded.Fresh c.args.storage) reader.at (words reader.file.now) (short_file reader.file.now c.in_default.ensures.refusal) refl }
 
 pub returns : goal.returns
 returns c =

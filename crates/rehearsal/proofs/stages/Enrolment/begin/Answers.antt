@@ -9,7 +9,8 @@ use Rattle.rehearsal.proofs.stages.Enrolment.begin.Goals as goal
 pub invariant_of-result : goal.invariant_of-result
 invariant_of-result c =
     let was = c.args.self in
-    begun_facts (auction_state was.auction) was.clock.stamp _ _ _ _ was.own was.capped was.spaced c.in-Ok.ensures.step
+    let f = begun_facts (auction_state was.auction) was.clock.stamp _ _ _ _ was.own was.capped was.spaced c.in-Ok.ensures.step in
+    record { own = f.0; counted = f.1.0; capped = f.1.1.0; spaced = f.1.1.1.0 }
 
 pub returns : goal.returns
 unfolding after_begin

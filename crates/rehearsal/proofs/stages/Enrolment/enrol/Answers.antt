@@ -10,4 +10,5 @@ invariant_of-self c =
     let was = c.args.self.now in
     let K : State → Type 0 = λ t. (current t Enrolling was.clock.stamp ≡ true) × ((was.top ≡ t.top) × ((was.spread ≡ t.spread) × Unit {0})) in
     let held : K (auction_state was.auction) = (was.own, (was.capped, (was.spaced, tt))) in
-    enrolled_keeps K (auction_state was.auction) was.clock.stamp c.args.said.now _ c.enrol-result.ensures held held
+    let f = enrolled_keeps K (auction_state was.auction) was.clock.stamp c.args.said.now _ c.enrol-result.ensures held held in
+    record { own = f.0; capped = f.1.0; spaced = f.1.1.0 }

@@ -11,7 +11,8 @@ invariant_of-result c =
     let was = c.args.self in
     let after = auction_state c.next.new.self in
     let made = went_on_facts (auction_state was.auction) was.clock.stamp after c.in-Ok.clock.stamp was.round was.top was.spread was.own was.counted was.capped was.spaced c.in-Ok.ensures.step in
-    subst (λ top. Facts Open c.in-Ok.clock.stamp (was.round + 1) top was.spread after) (sym c.saturating_sub.ensures) made
+    let f = subst (λ top. Facts Open c.in-Ok.clock.stamp (was.round + 1) top was.spread after) (sym c.saturating_sub.ensures) made in
+    record { own = f.0; counted = f.1.0; capped = f.1.1.0; spaced = f.1.1.1.0 }
 
 pub returns : goal.returns
 unfolding after_next
