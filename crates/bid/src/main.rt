@@ -1,4 +1,5 @@
 // Turns the text of a bid file on standard input into its words, or with --text the words into text.
+#![tactic(auto)]
 
 mod failure;
 #[cfg(test)]

@@ -1,4 +1,5 @@
 // Reads a bid file on standard input and prints its listing.
+#![tactic(auto)]
 
 mod failure;
 

@@ -1,4 +1,5 @@
 // Runs the examples that its arguments name, and compares each listing with the one that is stored beside its file.
+#![tactic(auto)]
 
 use rehearsal::{Storage, rehearse};
 use std::alloc::Global;

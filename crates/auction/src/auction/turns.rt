@@ -60,7 +60,7 @@ impl<C: Curve, O: Order<Item = Exit>> Auction<C, O> {
     }
 
     // Makes a call with a clock of these numbers.
-    fn call(&mut self, call: Call) -> Answer
+    pub(crate) fn call(&mut self, call: Call) -> Answer
         ensures { (state C.Curve.meaning O.Order.ahead self.new, result) ≡ step (state C.Curve.meaning O.Order.ahead self.old) call }
     {
         match call {
