@@ -124,14 +124,14 @@ module _ (start : State) (fresh : start.stage ≡ Enrolling) (quiet : Quiet star
       (same ∙ ap (replayed start) (sym less), subst (Replays start) (sym less) r.0)
 
   -- one more call, after kept turns, with what is kept then
-  abbrev Goes_on : List Turn → Call → Saying → Type 0
-  Goes_on kept c x =
+  abbrev GoesOn : List Turn → Call → Saying → Type 0
+  GoesOn kept c x =
       ((step (replayed start kept) c).0 ≡ replayed start (keep kept (turn c (step (replayed start kept) c).1) x)) × Replays start (keep kept (turn c (step (replayed start kept) c).1) x)
 
   keeps_turn : (kept : List Turn) (c : Call) (x : Saying) → Replays start kept → saying (turn c (step (replayed start kept) c).1) ≡ x → keeps x ≡ true → Replays start (turn c (step (replayed start kept) c).1 ∷ kept)
   keeps_turn kept c x r said k = (r, refl, ap keeps said ∙ k)
 
-  goes_on : (kept : List Turn) → Replays start kept → (c : Call) (move : Move (replayed start kept)) → (step (replayed start kept) c).0 ≡ after (replayed start kept) move → saying (turn c (step (replayed start kept) c).1) ≡ heard (replayed start kept) move → Goes_on kept c (heard (replayed start kept) move)
+  goes_on : (kept : List Turn) → Replays start kept → (c : Call) (move : Move (replayed start kept)) → (step (replayed start kept) c).0 ≡ after (replayed start kept) move → saying (turn c (step (replayed start kept) c).1) ≡ heard (replayed start kept) move → GoesOn kept c (heard (replayed start kept) move)
   goes_on kept r c refusing e said = (e, r)
   goes_on kept r c (enrolling a h) e said = (refl, keeps_turn kept c _ r said refl)
   goes_on kept r c (beginning h) e said = (refl, keeps_turn kept c _ r said refl)
@@ -156,8 +156,8 @@ module _ (start : State) (fresh : start.stage ≡ Enrolling) (quiet : Quiet star
       let kept : List Turn = kept_latest_first h in
       let z : State = replayed start kept in
       let m = moved z c in
-      let g : Goes_on kept c (heard z m.move) = goes_on kept f.replays c m.move m.state_is m.saying_is in
-      let g' : Goes_on kept c (saying (turn c (step z c).1)) = subst (Goes_on kept c) (sym m.saying_is) g in
+      let g : GoesOn kept c (heard z m.move) = goes_on kept f.replays c m.move m.state_is m.saying_is in
+      let g' : GoesOn kept c (saying (turn c (step z c).1)) = subst (GoesOn kept c) (sym m.saying_is) g in
       let at-z : Follows (h ++ turn c (step z c).1 ∷ []) (step z c).0 = record { is_replayed = g'.0 ∙ ap (replayed start) (sym (kept_push [] h (turn c (step z c).1))); replays = subst (Replays start) (sym (kept_push [] h (turn c (step z c).1))) g'.1 } in
       subst (λ (y : State). Follows (h ++ turn c (step y c).1 ∷ []) (step y c).0) (sym f.is_replayed) at-z
 

@@ -1,5 +1,5 @@
 -- What every auction keeps true: its exit prices lie above the floor, and a round can follow a shut one. Assumes nothing.
-use Rattle.std.specs.Prelude.{◌≡◌, ℕ, ◌≤◌, Bool, true, ◌&&◌, ltb, List, [], ◌∷◌, Some, None, nat_lt}
+use Rattle.std.specs.Prelude.{◌≡◌, ℕ, ◌≤◌, Bool, true, ◌&&◌, List, [], ◌∷◌, Some, None, nat_lt}
 use Rattle.auction.specs.declared.clocks.Stage.{Stage}
 use Rattle.auction.specs.declared.clocks.Stage.TheVariants.{Enrolling, Open, Shut, Settled}
 use Rattle.book.specs.Books.{Books}
@@ -11,7 +11,7 @@ use Rattle.book.specs.Entries.{entry_former}
 
 -- the exit price, if there is one, is above the floor
 abbrev pub price_above : ℕ → Standing → Bool
-price_above floor s = elim s.exit [ None ↦ true | Some price ↦ ltb floor price ]
+price_above floor s = elim s.exit [ None ↦ true | Some price ↦ nat_lt floor price ]
 
 unfoldable pub exits_above : ℕ → List Row → Bool
 exits_above floor [] = true

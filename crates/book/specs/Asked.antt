@@ -1,5 +1,5 @@
 -- The questions of Enrol, Exit, Years and Step back that follow question 9. Assumes nothing.
-use Rattle.std.specs.Prelude.{ℕ, ◌+◌, Bool, true, false, not, ◌&&◌, ◌||◌, leb, List, [], ◌∷◌, length, Some, None, nat_le, nat_lt}
+use Rattle.std.specs.Prelude.{ℕ, ◌+◌, Bool, true, false, not, ◌&&◌, ◌||◌, List, [], ◌∷◌, length, Some, None, nat_le, nat_lt}
 use Rattle.book.specs.declared.class.Side.{Side}
 use Rattle.book.specs.declared.class.Side.TheVariants.{Taker, Maker}
 use Rattle.book.specs.declared.refusal.BookRefusal.{BookRefusal}
@@ -30,7 +30,7 @@ abbrev pub asked : ℕ → Bool → Question
 asked n b = record { number = n; yes = b }
 
 abbrev pub years_known : Application → Bool
-years_known a = elim (class_of a.class) [ None ↦ false | Some c ↦ nat_le 1 a.years && leb a.years (most_years c) ]
+years_known a = elim (class_of a.class) [ None ↦ false | Some c ↦ nat_le 1 a.years && nat_le a.years (most_years c) ]
 
 abbrev pub named : List Row → List ℕ → Bool
 named [] name = false

@@ -30,22 +30,22 @@ closes_after n (closes f settled) = n + 1
 
 -- the round and its cap after n accepted Closes, from the cap of Open; a settled auction has no further round
 module _ (top spread : ℕ) where
-  abbrev Counted_at : ℕ → Stage → ℕ → ℕ → Type 0
-  Counted_at n Enrolling round high = (n ≡ 0) × (high ≡ top)
-  Counted_at n Open round high = (round ≡ n + 1) × (high ≡ floor_after top spread n)
-  Counted_at n Shut round high = (round ≡ n) × (high - spread ≡ floor_after top spread n)
-  Counted_at n Settled round high = Unit {0}
+  abbrev CountedAt : ℕ → Stage → ℕ → ℕ → Type 0
+  CountedAt n Enrolling round high = (n ≡ 0) × (high ≡ top)
+  CountedAt n Open round high = (round ≡ n + 1) × (high ≡ floor_after top spread n)
+  CountedAt n Shut round high = (round ≡ n) × (high - spread ≡ floor_after top spread n)
+  CountedAt n Settled round high = Unit {0}
 
   pub record Counted (n : ℕ) (s : State) : Type 0 where
     pub spread_is : s.spread ≡ spread
-    pub round_is : Counted_at n s.stage s.round s.top
+    pub round_is : CountedAt n s.stage s.round s.top
 
   pub counted_opened : (s : State) → s.stage ≡ Enrolling → s.top ≡ top → s.spread ≡ spread → Counted 0 s
   counted_opened s e high wide =
-      record { spread_is = wide; round_is = subst (λ (g : Stage). Counted_at 0 g s.round s.top) (sym e) (refl, high) }
+      record { spread_is = wide; round_is = subst (λ (g : Stage). CountedAt 0 g s.round s.top) (sym e) (refl, high) }
 
-  in_stage : (n : ℕ) (s : State) (stage : Stage) → s.stage ≡ stage → Counted n s → Counted_at n stage s.round s.top
-  in_stage n s stage e h = subst (λ (g : Stage). Counted_at n g s.round s.top) e h.round_is
+  in_stage : (n : ℕ) (s : State) (stage : Stage) → s.stage ≡ stage → Counted n s → CountedAt n stage s.round s.top
+  in_stage n s stage e h = subst (λ (g : Stage). CountedAt n g s.round s.top) e h.round_is
 
   floor_next : (n high wide : ℕ) → high ≡ floor_after top spread n → wide ≡ spread → high - wide ≡ floor_after top spread (n + 1)
   floor_next n high wide is same = ap (λ (w : ℕ). high - w) same ∙ omega arith
