@@ -31,11 +31,11 @@ mod tests {
         }
     }
 
-    // 100,000,000 kW are wanted up to a price of 9,000.
-    fn curve(heap: Global) -> Result<Stepped, Fail> {
+    // 100,000,000 kW are wanted up to a price.
+    fn curve_up_to(heap: Global, price: u32) -> Result<Stepped, Fail> {
         let corners = [Corner {
             quantity: 100_000_000,
-            price: 9_000,
+            price,
         }];
         match Stepped::make(corners.to_vec(heap)?) {
             Ok(made) => Ok(made),
@@ -43,11 +43,25 @@ mod tests {
         }
     }
 
+    fn curve(heap: Global) -> Result<Stepped, Fail> {
+        curve_up_to(heap, 9_000)
+    }
+
     fn open(heap: Global, number: u16) -> Result<(Rehearsal, EnrolmentClock), Fail> {
         let room = Room::new(heap)?;
         match Auction::open(number, 9_000, 1_000, 8_500, curve(heap)?, ByName, room) {
             Ok(made) => Ok(made),
             Err(_) => Err(Fail::new("not opened")),
+        }
+    }
+
+    fn begin(
+        mut auction: Rehearsal,
+        clock: EnrolmentClock,
+    ) -> Result<(Rehearsal, OpenClock), Fail> {
+        match auction.begin(clock) {
+            Ok(open) => Ok((auction, open)),
+            Err(_) => Err(Fail::new("not begun")),
         }
     }
 
@@ -59,10 +73,7 @@ mod tests {
         taker.name = *b"TAKER   ";
         assert!(rt; number(auction.enrol(&clock, &UNIT)) == 0);
         assert!(rt; number(auction.enrol(&clock, &taker)) == 0);
-        match auction.begin(clock) {
-            Ok(open) => Ok((auction, open)),
-            Err(_) => Err(Fail::new("not begun")),
-        }
+        begin(auction, clock)
     }
 
     #[test]
@@ -145,16 +156,6 @@ mod tests {
         Ok(())
     }
 
-    fn begin(
-        mut auction: Rehearsal,
-        clock: EnrolmentClock,
-    ) -> Result<(Rehearsal, OpenClock), Fail> {
-        match auction.begin(clock) {
-            Ok(open) => Ok((auction, open)),
-            Err(_) => Err(Fail::new("not begun")),
-        }
-    }
-
     // A name of its own for each number below 1,000.
     fn name_of(n: u32) -> Name {
         let mut name = *b"UNIT000 ";
@@ -204,16 +205,9 @@ mod tests {
         }
     }
 
-    // 100,000,000 kW are wanted up to a price of 10,000.
     #[test]
     fn opening_at_the_highest_cap(rt: HostRuntime) -> Result<(), Fail> {
-        let corners = [Corner {
-            quantity: 100_000_000,
-            price: 10_000,
-        }];
-        let Ok(wanted) = Stepped::make(corners.to_vec(rt.alloc())?) else {
-            return Err(Fail::new("no curve"));
-        };
+        let wanted = curve_up_to(rt.alloc(), 10_000)?;
         assert_eq!(rt; number(check_open(10_000, 1, 0, &wanted)), 0);
         assert_eq!(rt; number(check_open(10_001, 1, 0, &wanted)), 6);
         Ok(())

@@ -10,14 +10,13 @@ fn check_line(rt: &impl Abort, heap: Global, line: &str, text: &str) -> Result<(
     match read_line(line.as_bytes()) {
         Ok(_) => {
             assert!(rt; text == "read");
-            Ok(())
-        },
+        }
         Err(expected) => {
             let told = expected.to_string(heap)?;
             assert!(rt; told.as_str() == text);
-            Ok(())
         }
     }
+    Ok(())
 }
 
 #[test]
@@ -98,8 +97,7 @@ fn text_there_and_back(rt: HostRuntime) -> Result<(), Fail> {
     let text =
         "  unit   hex:6865783A20202020 1 0 maker years 2 random 3 # a name that begins with hex:\n\nunit A 1 9 taker years 2 random 3";
     let Ok(words) = text_words(heap, text.as_bytes()) else {
-        assert!(rt; false);
-        return Ok(());
+        return Err(Fail::new("the text is not read"));
     };
     assert_eq!(rt; words.len(), 56);
     let listed = words_text(heap, words.as_slice())?;
@@ -118,14 +116,10 @@ fn wrong_line_and_damage(rt: HostRuntime) -> Result<(), Fail> {
     assert!(rt; matches!(wrong, Err(TextFault::Line(3, Expected::End))));
     let listed = words_text(heap, &[0x60, 0, 0, 0, 0x30, 0, 0, 0])?;
     assert!(rt; listed.text.as_str() == "back\n");
-    match listed.fault {
-        Some(fault) => {
-            assert!(rt; fault.number() == 25 && fault.place == 1);
-            Ok(())
-        },
-        None => {
-            assert!(rt; false);
-            Ok(())
-        },
-    }
+    let Some(fault) = listed.fault else {
+        return Err(Fail::new("no fault is told"));
+    };
+    assert_eq!(rt; fault.number(), 25);
+    assert_eq!(rt; fault.place, 1);
+    Ok(())
 }

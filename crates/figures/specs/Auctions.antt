@@ -1,5 +1,5 @@
 -- The worked auctions over curve K, call by call, and what they come to.
-use Rattle.std.specs.Prelude.{◌≡◌, ℕ, List, [], ◌∷◌, map, Some, None, codes}
+use Rattle.std.specs.Prelude.{◌≡◌, ℕ, List, [], ◌∷◌, map, slice_set, Some, None, codes}
 use Prim.Native.String.{String}
 use Rattle.auction.specs.declared.calls.Answer.{Answer}
 use Rattle.auction.specs.declared.calls.Answer.TheVariants.{Refused, Enrolled, Begun, Entered, SteppedBack, ClosedShut, ClosedSettled, Opened}
@@ -81,7 +81,7 @@ abbrev pub figures : ℕ → ℕ → Figures
 figures in_kw demand = record { capacity_in = in_kw; demand = demand }
 
 abbrev pub settled_at : ℕ → Ground → ℕ → Settlement
-settled_at price why stop = settlement_at price why stop
+settled_at = settlement_at
 
 abbrev pub answers_to : List Call → List Answer
 answers_to calls = map (λ t. t.answer) (played worked_start calls)
@@ -124,26 +124,9 @@ worked_answers =
     ∷ ClosedSettled (figures 19000 27500) (clock 2)
     ∷ []
 
--- what the same calls answer in the twin
+-- what the same calls answer in the twin: the first close has 21,500 in
 abbrev pub answers_of_the_twin : List Answer
-answers_of_the_twin =
-    Enrolled 0
-    ∷ Enrolled 1
-    ∷ Enrolled 2
-    ∷ Enrolled 3
-    ∷ Enrolled 4
-    ∷ Begun (clock 1)
-    ∷ Entered
-    ∷ ClosedShut (figures 21500 20000) (clock 1)
-    ∷ Opened (clock 2)
-    ∷ Refused 18
-    ∷ Entered
-    ∷ Entered
-    ∷ SteppedBack
-    ∷ Entered
-    ∷ Entered
-    ∷ ClosedSettled (figures 19000 27500) (clock 2)
-    ∷ []
+answers_of_the_twin = slice_set worked_answers 7 (ClosedShut (figures 21500 20000) (clock 1))
 
 pub record WorkedAuctions : Type 0 where
   -- the Open is not refused

@@ -5,6 +5,7 @@ ghost use Rattle.curve.specs.Questions.{refused, question};
 ghost use Rattle.curve.specs.Weighing.{Weighed, sign_number};
 ghost use Rattle.figures.specs.Counts.{CountedFor};
 ghost use Rattle.figures.specs.Curves.{worked_corners, FoundSo};
+ghost use Rattle.figures.specs.Texts.{verdict_text, sign_text};
 
 use crate::outcome::Outcome;
 use crate::tally::Tally;
@@ -28,7 +29,9 @@ pub const K: [Corner; 3] = [
     },
 ];
 
-pub fn sign_word(sign: Sign) -> &'static str {
+pub fn sign_word(sign: Sign) -> &'static str
+    ensures { result.now ≡ sign_text sign }
+{
     match sign {
         Sign::Below => "below",
         Sign::Level => "level with",
@@ -56,7 +59,9 @@ pub fn made_stepped(heap: Global) -> anyhow::Result<Stepped>
     }
 }
 
-pub fn verdict(agrees: bool) -> &'static str {
+pub fn verdict(agrees: bool) -> &'static str
+    ensures { result.now ≡ verdict_text agrees }
+{
     if agrees { "agrees" } else { "DIFFERS" }
 }
 

@@ -22,11 +22,11 @@ pub by_handed : (d : Due) (f : Found) (fs : List Found) (P : Result (Option (ℕ
     → ((n at : ℕ) → P (Err (n, at)))
     → ((item : Item) → f.whole ≡ true → in_turn d f.kind ≡ true → f.item ≡ Some item → P (Ok (Some (f.place, item))))
     → P (handed d (f ∷ fs))
-by_handed d f fs P fault Handed-out = asked (first_no (record_questions d f)) refl
+by_handed d f fs P fault handed_out = asked (first_no (record_questions d f)) refl
   where
     item_found : f.whole ≡ true → in_turn d f.kind ≡ true → (o : Option Item) → is_some o ≡ true → f.item ≡ o → P (elim o [ None ↦ Ok None | Some item ↦ Ok (Some (f.place, item)) ])
     item_found whole turn None some e = absurd (false≢true some)
-    item_found whole turn (Some item) some e = Handed-out item whole turn e
+    item_found whole turn (Some item) some e = handed_out item whole turn e
 
     asked : (o : Option ℕ) → first_no (record_questions d f) ≡ o → P (elim o [ Some n ↦ Err (n, f.place) | None ↦ elim f.item [ None ↦ Ok None | Some item ↦ Ok (Some (f.place, item)) ] ])
     asked (Some n) e = fault n f.place

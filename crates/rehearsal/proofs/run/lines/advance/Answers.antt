@@ -38,10 +38,10 @@ take-requires c =
     let at = c.args.reader.now.at in
     let fs = found bytes at in
     let end = c.next.new.self.at in
-    let Handed-out = subst (λ (o : Option Placed). told (Ok o) ≡ handed c.due.result fs) c.in-Some.is c.in_ok-placed.ensures.answer ∙ ap (λ (d : Due). handed d fs) c.due.ensures in
+    let handed_out = subst (λ (o : Option Placed). told (Ok o) ≡ handed c.due.result fs) c.in-Some.is c.in_ok-placed.ensures.answer ∙ ap (λ (d : Due). handed d fs) c.due.ensures in
     let moved = subst (λ (o : Option Placed). Moved bytes at end (Ok o)) c.in-Some.is c.in_ok-placed.ensures.place in
     let laid = subst (λ (o : Option Placed). Laid bytes (Ok o)) c.in-Some.is c.in_ok-placed.ensures.laid in
-    takeable c.args.progress bytes at end c.in-Some.placed.place (item_of c.in-Some.placed.«record») c.requires.0 c.requires.1 Handed-out moved.1 moved.2 laid
+    takeable c.args.progress bytes at end c.in-Some.placed.place (item_of c.in-Some.placed.«record») c.requires.0 c.requires.1 handed_out moved.1 moved.2 laid
 
 pub returns-in_err-taken-in-Some : goal.returns-in_err-taken-in-Some
 returns-in_err-taken-in-Some c =
@@ -50,9 +50,9 @@ returns-in_err-taken-in-Some c =
     let fs = found bytes c.args.reader.now.at in
     let rest = found bytes c.next.new.self.at in
     let end = c.next.new.self.at in
-    let Handed-out = subst (λ (o : Option Placed). told (Ok o) ≡ handed c.due.result fs) c.in-Some.is c.in_ok-placed.ensures.answer ∙ ap (λ (d : Due). handed d fs) c.due.ensures in
+    let handed_out = subst (λ (o : Option Placed). told (Ok o) ≡ handed c.due.result fs) c.in-Some.is c.in_ok-placed.ensures.answer ∙ ap (λ (d : Due). handed d fs) c.due.ensures in
     record {
-      lines = ap (λ (r : Result (Coded × Option Line) Fault). advanced_as r rest) p.1 ∙ ap (λ (f : Fault). fault_line f ∷ []) p.2 ∙ record_fault c.args.progress _ fs c.in-Some.placed.place (item_of c.in-Some.placed.«record») c.requires.1 Handed-out c.in_err-taken-in-Some.ensures.lines;
+      lines = ap (λ (r : Result (Coded × Option Line) Fault). advanced_as r rest) p.1 ∙ ap (λ (f : Fault). fault_line f ∷ []) p.2 ∙ record_fault c.args.progress _ fs c.in-Some.placed.place (item_of c.in-Some.placed.«record») c.requires.1 handed_out c.in_err-taken-in-Some.ensures.lines;
       file = c.next.ensures.file;
       bytes = c.next.ensures.bytes;
       place = subst (λ (r : Result (Coded × Option Line) Fault). Further c.args.reader.now.at end (words bytes) r) (sym p.1) tt;
@@ -65,9 +65,9 @@ returns-in_err-line-in-None c =
     let fs = found bytes c.args.reader.now.at in
     let rest = found bytes c.next.new.self.at in
     let end = c.next.new.self.at in
-    let Handed-out = subst (λ (o : Option Placed). told (Ok o) ≡ handed c.due.result fs) c.in-None.is c.in_ok-placed.ensures.answer ∙ ap (λ (d : Due). handed d fs) c.due.ensures in
+    let handed_out = subst (λ (o : Option Placed). told (Ok o) ≡ handed c.due.result fs) c.in-None.is c.in_ok-placed.ensures.answer ∙ ap (λ (d : Due). handed d fs) c.due.ensures in
     record {
-      lines = ap (λ (r : Result (Coded × Option Line) Fault). advanced_as r rest) p.1 ∙ ap (λ (f : Fault). fault_line f ∷ []) p.2 ∙ c.in_err-line-in-None.ensures ∙ sym (ahead_end c.args.progress fs c.requires.1 Handed-out);
+      lines = ap (λ (r : Result (Coded × Option Line) Fault). advanced_as r rest) p.1 ∙ ap (λ (f : Fault). fault_line f ∷ []) p.2 ∙ c.in_err-line-in-None.ensures ∙ sym (ahead_end c.args.progress fs c.requires.1 handed_out);
       file = c.next.ensures.file;
       bytes = c.next.ensures.bytes;
       place = subst (λ (r : Result (Coded × Option Line) Fault). Further c.args.reader.now.at end (words bytes) r) (sym p.1) tt;
@@ -82,12 +82,12 @@ returns-in_ok-taken-in-Some c =
     let rest = found bytes end in
     let item = item_of c.in-Some.placed.«record» in
     let after = c.in_ok-taken-in-Some.taken in
-    let Handed-out = subst (λ (o : Option Placed). told (Ok o) ≡ handed c.due.result fs) c.in-Some.is c.in_ok-placed.ensures.answer ∙ ap (λ (d : Due). handed d fs) c.due.ensures in
+    let handed_out = subst (λ (o : Option Placed). told (Ok o) ≡ handed c.due.result fs) c.in-Some.is c.in_ok-placed.ensures.answer ∙ ap (λ (d : Due). handed d fs) c.due.ensures in
     let moved = subst (λ (o : Option Placed). Moved bytes at end (Ok o)) c.in-Some.is c.in_ok-placed.ensures.place in
     let one = size_some (item_kind item) in
     let further : at < end = omega (arith, moved.1, one) in
     record {
-      lines = record_lines c.args.progress after.0 after.1 fs rest c.in-Some.placed.place item c.requires.1 Handed-out moved.0 c.in_ok-taken-in-Some.ensures.lines;
+      lines = record_lines c.args.progress after.0 after.1 fs rest c.in-Some.placed.place item c.requires.1 handed_out moved.0 c.in_ok-taken-in-Some.ensures.lines;
       file = c.next.ensures.file;
       bytes = c.next.ensures.bytes;
       place = (record_sound c.args.progress after.0 after.1 at end (words bytes) c.in-Some.placed.place item c.requires.0 c.in_ok-taken-in-Some.ensures.lines c.in_ok-taken-in-Some.ensures.stage moved.1, λ on. (further, moved.2));
@@ -100,9 +100,9 @@ returns-in_ok-line-in-None c =
     let end = c.next.new.self.at in
     let rest = found bytes end in
     let line = option_to_list c.in_ok-line-in-None.line in
-    let Handed-out = subst (λ (o : Option Placed). told (Ok o) ≡ handed c.due.result fs) c.in-None.is c.in_ok-placed.ensures.answer ∙ ap (λ (d : Due). handed d fs) c.due.ensures in
+    let handed_out = subst (λ (o : Option Placed). told (Ok o) ≡ handed c.due.result fs) c.in-None.is c.in_ok-placed.ensures.answer ∙ ap (λ (d : Due). handed d fs) c.due.ensures in
     record {
-      lines = ap (λ (z : List Line). (line ++ []) ++ z) (over_ahead rest) ∙ append-nil (line ++ []) ∙ append-nil line ∙ c.in_ok-line-in-None.ensures ∙ sym (ahead_end c.args.progress fs c.requires.1 Handed-out);
+      lines = ap (λ (z : List Line). (line ++ []) ++ z) (over_ahead rest) ∙ append-nil (line ++ []) ∙ append-nil line ∙ c.in_ok-line-in-None.ensures ∙ sym (ahead_end c.args.progress fs c.requires.1 handed_out);
       file = c.next.ensures.file;
       bytes = c.next.ensures.bytes;
       place = (sound_both coded.Over end (words bytes) refl refl, λ on. absurd (false≢true (sym on)));

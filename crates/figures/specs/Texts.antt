@@ -1,0 +1,14 @@
+-- The words that stand for an answer in what is printed.
+use Rattle.std.specs.Prelude.{ℕ, Bool, true, false, List, codes}
+use Rattle.curve.specs.declared.sign.Sign.{Sign}
+use Rattle.curve.specs.declared.sign.Sign.TheVariants.{Below, Level, Above}
+
+abbrev pub verdict_text : Bool → List ℕ
+verdict_text true = codes "agrees"
+verdict_text false = codes "DIFFERS"
+
+-- how an area compares with a sum
+abbrev pub sign_text : Sign → List ℕ
+sign_text Below = codes "below"
+sign_text Level = codes "level with"
+sign_text Above = codes "above"
