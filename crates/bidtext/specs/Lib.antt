@@ -4,6 +4,7 @@ pub mod Values
 pub mod Names
 pub mod Lines
 pub mod Texts
+pub mod Expectations
 pub mod RoundTrip
 pub mod Files
 pub mod Kept

@@ -1,3 +1,6 @@
+ghost use Rattle.std.specs.Prelude.{Some};
+ghost use Rattle.bidtext.specs.Expectations.{expected_text};
+
 use std::fmt;
 
 // What was expected on a line that cannot be read.
@@ -22,6 +25,8 @@ pub enum Expected {
 }
 
 impl fmt::Display for Expected {
+    ghost output = { λ expected. Some (expected_text expected) };
+
     fn fmt<W: fmt::Write>(&self, f: &mut fmt::Formatter<W>) -> fmt::Result {
         match self {
             Expected::Record => f.write_str("auction, corner, unit, exit, years, back or close"),
