@@ -1,8 +1,9 @@
 -- What the calls leave of the rule that exit prices lie above the floor. Assumes nothing.
-use Rattle.std.proofs.Common.{◌≡◌, ℕ, zero, suc, ◌<◌, ◌≤◌, Bool, true, false, cond, ltb, List, [], ◌∷◌, ◌++◌, get_or, Some, None, Option, sym, refl, arith}
+use Rattle.std.proofs.Common.{◌≡◌, ℕ, zero, suc, ◌<◌, ◌≤◌, true, ltb, List, [], ◌∷◌, ◌++◌, get_or, Some, None, Option, sym, refl, subst, arith}
 use Rattle.std.proofs.lemmas.Bool.{and_parts, and_from, lt-ltb, ltb-true}
 use Rattle.std.proofs.lemmas.Bool.Decides.{nat_tests}
 use Rattle.auction.specs.Sound.{price_above, exits_above, formers_above, book_above}
+use Rattle.auction.specs.State.{State, floor_of, terms_of}
 use Rattle.auction.specs.Steps.{open_questions}
 use Rattle.book.specs.Asked.{exit_questions}
 use Rattle.book.specs.Books.{Books, no_books, no_unit, new_unit, unit_at, out_at, for_years, with_unit, with_exit, with_years, undone, stepped_back, closed_book, enrolled_as, class_of}
@@ -18,7 +19,7 @@ use Rattle.book.specs.Entries.{entry_former}
 use Rattle.book.proofs.ModelLaws.{with_standing}
 use Rattle.curve.specs.Meaning.{Meaning}
 use Rattle.book.proofs.Rules.{exit_allowed}
-use Rattle.curve.specs.Questions.{Question, first_no}
+use Rattle.curve.specs.Questions.{first_no}
 
 pub above_parts : (floor : ℕ) (b : Books) → book_above floor b ≡ true → (exits_above floor b.units ≡ true) × (formers_above floor b.entries ≡ true)
 unfolding book_above
@@ -130,22 +131,6 @@ above_lower floor low b le h =
 pub open_allowed : (m : Meaning) (top spread threshold : ℕ) → first_no (open_questions m top spread threshold) ≡ None → (top ≤ 10000) × (1 ≤ spread)
 open_allowed m top spread threshold h = (let k : top ≤ 10000 = grind (arith, nat_tests) in k, let k : 1 ≤ spread = grind (arith, nat_tests) in k)
 
--- what a call that is carried out was asked
-
-yes_rest : (q : Question) (qs : List Question) → None ≡ first_no (q ∷ qs) → first_no qs ≡ None
-yes_rest q qs = cases q.yes
-  where
-    cases : (b : Bool) → None ≡ cond b (first_no qs) (Some q.number) → first_no qs ≡ None
-    cases true h = sym h
-    cases false h = absurd (let z : ◌≡◌ {A = ℕ} 0 1 = cc in omega arith)
-
-pub exit_price_above : (q : Question) (t : Terms) (b : Books) (i price : ℕ) → None ≡ first_no (q ∷ exit_questions t b i price) → t.floor < price
-exit_price_above q t b i price h = (exit_allowed t b i price (yes_rest q (exit_questions t b i price) h)).above
-
--- a first question answered "no" is the first "no" of any list that it begins
-pub no_first : (q : Question) (qs : List Question) (n : ℕ) → Some n ≡ first_no (q ∷ []) → Some n ≡ first_no (q ∷ qs)
-no_first q qs n = cases q.yes
-  where
-    cases : (b : Bool) → Some n ≡ cond b None (Some q.number) → Some n ≡ cond b (first_no qs) (Some q.number)
-    cases true h = absurd (let z : ◌≡◌ {A = ℕ} 0 1 = cc in omega arith)
-    cases false h = h
+-- an exit that is let in is above the floor
+pub exit_price_above : (s : State) (t : Terms) (b : Books) (i price : ℕ) → t ≡ terms_of s → None ≡ first_no (exit_questions t b i price) → floor_of s < price
+exit_price_above s t b i price e h = subst (λ (u : Terms). u.floor < price) e (exit_allowed t b i price (sym h)).above

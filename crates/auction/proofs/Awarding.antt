@@ -1,8 +1,6 @@
 -- What the code asks of a round to be priced and of a unit to be awarded. Assumes nothing.
-use Rattle.std.proofs.Common.{◌≡◌, ℕ, ◌+◌, ◌-◌, ◌<◌, ◌≤◌, Bool, true, ◌||◌, eqb, List, length, get_or, take, drop, sym, ap, ◌∙◌, subst, arith, length-take}
-use Rattle.std.proofs.lemmas.List.{drop_more, take_all, take-take}
-use Rattle.std.proofs.lemmas.Bool.Decides.{nat_tests}
-use Rattle.auction.specs.Awards.{among}
+use Rattle.std.proofs.Common.{◌≡◌, ℕ, ◌-◌, ◌<◌, ◌≤◌, true, List, length, take, sym, ap, ◌∙◌, subst, arith, length-take}
+use Rattle.std.proofs.lemmas.List.{take_all, take-take}
 use Rattle.auction.specs.Sound.{book_above, Priceable}
 use Rattle.auction.proofs.Above.{above_parts}
 use Rattle.book.specs.Books.{Books, unit_at}
@@ -18,16 +16,6 @@ terms_priceable t top spread threshold b e low above =
 -- a unit of a book is out exactly if it has an exit price
 pub unit_priced : (b : Books) (i : ℕ) → lawful b ≡ true → i < length b.units → out_if_priced (unit_at b i).standing ≡ true
 unit_priced b i h lt = (unit_stands _ (lawful_at b.units i (lawful_keeps b h).units lt)).priced
-
-pub among_next : (i k : ℕ) (exits : List Exit) (d : Exit) (all : Bool) → k < length exits → among i (drop k exits) ≡ all → ((get_or exits k d).unit ≡ i → ⊥) → among i (drop (k + 1) exits) ≡ all
-among_next i k exits d all lt going differ =
-    let e : among i (drop k exits) ≡ (eqb i (get_or exits k d).unit || among i (drop (k + 1) exits)) = ap (among i) (drop_more exits k d lt) in
-    grind (arith, nat_tests)
-
-pub among_here : (i k : ℕ) (exits : List Exit) (d : Exit) (all : Bool) → k < length exits → among i (drop k exits) ≡ all → (get_or exits k d).unit ≡ i → true ≡ all
-among_here i k exits d all lt going same =
-    let e : among i (drop k exits) ≡ (eqb i (get_or exits k d).unit || among i (drop (k + 1) exits)) = ap (among i) (drop_more exits k d lt) in
-    grind (arith, nat_tests)
 
 -- the first of the ranked exits, up to the stopping place
 

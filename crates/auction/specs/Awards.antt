@@ -1,5 +1,6 @@
 -- What a settlement awards. Assumes nothing.
-use Rattle.std.specs.Prelude.{ℕ, Bool, false, cond, ◌||◌, List, [], ◌∷◌, take, ◌==◌}
+use Rattle.std.specs.Prelude.{ℕ, Bool, cond, ◌||◌, List, take, ◌==◌}
+use Rattle.std.specs.List.{list_any}
 use Rattle.auction.specs.State.{State, ranked_exits}
 use Rattle.book.specs.Books.{unit_at, years_at}
 use Rattle.clearing.specs.declared.settlement.Settlement.{Settlement}
@@ -7,8 +8,7 @@ use Rattle.ranking.specs.declared.exits.Exit.{Exit}
 
 -- the unit i has an exit among these
 abbrev pub among : ℕ → List Exit → Bool
-among i [] = false
-among i (e ∷ exits) = i == e.unit || among i exits
+among i exits = list_any (λ e. i == e.unit) exits
 
 -- the exits that are awarded: those up to the stopping place
 abbrev pub awarded_exits : State → Settlement → List Exit

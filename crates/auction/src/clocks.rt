@@ -1,8 +1,5 @@
-ghost use Rattle.std.specs.Prelude.{◌≡◌};
-ghost use Rattle.auction.specs.State.{same_stage};
-
 // The stage of an auction, which is the kind of its clock.
-#[derive(Clone, Copy, PartialEq)]
+#[derive(Clone, Copy, PartialEq, Eq, Debug)]
 pub enum Stage {
     Enrolling,
     Open,
@@ -11,7 +8,7 @@ pub enum Stage {
 }
 
 // What a clock carries: the number of its auction and a round.
-#[derive(Clone, Copy)]
+#[derive(Clone, Copy, PartialEq, Eq, Debug)]
 pub struct Stamp {
     pub number: u16,
     pub round: u32,
@@ -39,20 +36,6 @@ pub struct ShutClock {
 #[derive(Drop)]
 pub struct SettledClock {
     pub(crate) stamp: Stamp,
-}
-
-impl Stage {
-    pub(crate) fn is(self, other: Stage) -> bool
-        ensures { result ≡ same_stage self other }
-    {
-        match (self, other) {
-            (Stage::Enrolling, Stage::Enrolling) => true,
-            (Stage::Open, Stage::Open) => true,
-            (Stage::Shut, Stage::Shut) => true,
-            (Stage::Settled, Stage::Settled) => true,
-            _ => false,
-        }
-    }
 }
 
 // What closing a round gives: the clock of a round that did not clear, or of one that did.

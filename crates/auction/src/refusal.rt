@@ -5,7 +5,7 @@ ghost use Rattle.auction.specs.declared.refusal.Refusal.TheVariants.{Book};
 use book::BookRefusal;
 
 // The questions of the auction that can be answered "no", with those of its book.
-#[derive(Clone, Copy)]
+#[derive(Clone, Copy, PartialEq, Eq, Debug)]
 pub enum Refusal {
     CapOrDemand,
     Spread,

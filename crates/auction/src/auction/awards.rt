@@ -18,12 +18,7 @@ use ranking::{Exit, Numbered, Order};
 fn is_among(unit: usize, exits: &[Exit]) -> bool
     ensures { result ≡ among unit exits.now }
 {
-    for exit in exits {
-        if exit.unit == unit {
-            return true;
-        }
-    }
-    false
+    exits.iter().any(|exit| unit == exit.unit)
 }
 
 // Whether a unit is awarded, given the exits that are: it is still in, or its exit is one of them.
@@ -41,14 +36,11 @@ impl<C: Curve, O: Order<Item = Exit>> Auction<C, O> {
     pub(super) fn settled(&self) -> Settlement
         ensures { result ≡ settlement_of (state C.Curve.meaning O.Order.ahead self.now) }
     {
-        match price(&self.book, self.terms(), &self.curve, &self.order) {
-            Some(settlement) => settlement,
-            None => Settlement {
-                price: self.floor(),
-                ground: Ground::AllFit,
-                stop: 0,
-            },
-        }
+        price(&self.book, self.terms(), &self.curve, &self.order).unwrap_or(Settlement {
+            price: self.floor(),
+            ground: Ground::AllFit,
+            stop: 0,
+        })
     }
 
     // Gathers the awarded exits at the front of a lent table, and answers how many there are.

@@ -5,7 +5,7 @@ ghost use Rattle.auction.specs.Views.{state};
 ghost use Rattle.auction.specs.declared.calls.Answer.TheVariants.{Enrolled, Entered, SteppedBack};
 
 use crate::auction::Auction;
-use crate::clocks::{EnrolmentClock, OpenClock};
+use crate::clocks::{EnrolmentClock, OpenClock, Stage};
 use crate::refusal::Refusal;
 use book::Application;
 use curve::Curve;
@@ -20,7 +20,8 @@ impl<C: Curve, O: Order<Item = Exit>> Auction<C, O> {
     ) -> Result<usize, Refusal>
         ensures { (state C.Curve.meaning O.Order.ahead self.new, answer Enrolled result) ≡ enrolled (state C.Curve.meaning O.Order.ahead self.old) clock.now.stamp application.now }
     {
-        self.enrol_questions(clock, application)?;
+        self.ask_clock(Stage::Enrolling, clock.stamp)?;
+        self.book.enrol_questions(application)?;
         Ok(self.book.enrol(application))
     }
 
@@ -28,7 +29,8 @@ impl<C: Curve, O: Order<Item = Exit>> Auction<C, O> {
     pub fn exit(&mut self, clock: &OpenClock, unit: usize, price: u32) -> Result<(), Refusal>
         ensures { (state C.Curve.meaning O.Order.ahead self.new, answer (λ _. Entered) result) ≡ exited (state C.Curve.meaning O.Order.ahead self.old) clock.now.stamp unit price }
     {
-        self.exit_questions(clock, unit, price)?;
+        self.ask_clock(Stage::Open, clock.stamp)?;
+        self.book.exit_questions(self.terms(), unit, price)?;
         self.book.put_out(unit, price);
         Ok(())
     }
@@ -37,7 +39,8 @@ impl<C: Curve, O: Order<Item = Exit>> Auction<C, O> {
     pub fn years(&mut self, clock: &OpenClock, unit: usize, years: u32) -> Result<(), Refusal>
         ensures { (state C.Curve.meaning O.Order.ahead self.new, answer (λ _. Entered) result) ≡ served (state C.Curve.meaning O.Order.ahead self.old) clock.now.stamp unit years }
     {
-        self.years_questions(clock, unit, years)?;
+        self.ask_clock(Stage::Open, clock.stamp)?;
+        self.book.years_questions(unit, years)?;
         self.book.serve(unit, years);
         Ok(())
     }
@@ -46,7 +49,8 @@ impl<C: Curve, O: Order<Item = Exit>> Auction<C, O> {
     pub fn step_back(&mut self, clock: &OpenClock) -> Result<(), Refusal>
         ensures { (state C.Curve.meaning O.Order.ahead self.new, answer (λ _. SteppedBack) result) ≡ went_back (state C.Curve.meaning O.Order.ahead self.old) clock.now.stamp }
     {
-        self.back_questions(clock)?;
+        self.ask_clock(Stage::Open, clock.stamp)?;
+        self.book.back_questions()?;
         self.book.step_back();
         Ok(())
     }

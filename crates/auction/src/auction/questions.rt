@@ -2,15 +2,12 @@ ghost use Rattle.std.specs.Prelude.{◌≡◌, [], ◌∷◌};
 ghost use Rattle.auction.specs.State.{current, terms_of, floor_of};
 ghost use Rattle.auction.specs.Steps.{auction_question, own_clock};
 ghost use Rattle.auction.specs.Views.{state};
-ghost use Rattle.auction.specs.declared.clocks.Stage.TheVariants.{Enrolling, Open};
-ghost use Rattle.book.specs.Asked.{enrol_questions, exit_questions, years_questions, back_questions};
-ghost use Rattle.book.specs.Views.{books};
 ghost use Rattle.curve.specs.Questions.{refused, first_no};
 
 use crate::auction::Auction;
-use crate::clocks::{EnrolmentClock, OpenClock, Stage, Stamp};
+use crate::clocks::{Stage, Stamp};
 use crate::refusal::Refusal;
-use book::{Application, Terms};
+use book::Terms;
 use curve::Curve;
 use ranking::{Exit, Order};
 
@@ -36,7 +33,7 @@ impl<C: Curve, O: Order<Item = Exit>> Auction<C, O> {
     fn has_clock(&self, stage: Stage, stamp: Stamp) -> bool
         ensures { result ≡ current (state C.Curve.meaning O.Order.ahead self.now) stage stamp }
     {
-        self.stage.is(stage) && self.number == stamp.number && self.round == stamp.round
+        self.stage == stage && stamp == self.stamp()
     }
 
     // Question 9.
@@ -46,52 +43,6 @@ impl<C: Curve, O: Order<Item = Exit>> Auction<C, O> {
         if !self.has_clock(stage, stamp) {
             return Err(Refusal::Clock);
         }
-        Ok(())
-    }
-
-    pub(super) fn enrol_questions(
-        &self,
-        clock: &EnrolmentClock,
-        application: &Application,
-    ) -> Result<(), Refusal>
-        ensures { refused auction_question result ≡ first_no (own_clock (state C.Curve.meaning O.Order.ahead self.now) Enrolling clock.now.stamp ∷ enrol_questions (books self.now.book) application.now) }
-    {
-        self.ask_clock(Stage::Enrolling, clock.stamp)?;
-        self.book.enrol_questions(application)?;
-        Ok(())
-    }
-
-    pub(super) fn exit_questions(
-        &self,
-        clock: &OpenClock,
-        unit: usize,
-        price: u32,
-    ) -> Result<(), Refusal>
-        ensures { refused auction_question result ≡ first_no (own_clock (state C.Curve.meaning O.Order.ahead self.now) Open clock.now.stamp ∷ exit_questions (terms_of (state C.Curve.meaning O.Order.ahead self.now)) (books self.now.book) unit price) }
-    {
-        self.ask_clock(Stage::Open, clock.stamp)?;
-        self.book.exit_questions(self.terms(), unit, price)?;
-        Ok(())
-    }
-
-    pub(super) fn years_questions(
-        &self,
-        clock: &OpenClock,
-        unit: usize,
-        years: u32,
-    ) -> Result<(), Refusal>
-        ensures { refused auction_question result ≡ first_no (own_clock (state C.Curve.meaning O.Order.ahead self.now) Open clock.now.stamp ∷ years_questions (books self.now.book) unit years) }
-    {
-        self.ask_clock(Stage::Open, clock.stamp)?;
-        self.book.years_questions(unit, years)?;
-        Ok(())
-    }
-
-    pub(super) fn back_questions(&self, clock: &OpenClock) -> Result<(), Refusal>
-        ensures { refused auction_question result ≡ first_no (own_clock (state C.Curve.meaning O.Order.ahead self.now) Open clock.now.stamp ∷ back_questions (books self.now.book)) }
-    {
-        self.ask_clock(Stage::Open, clock.stamp)?;
-        self.book.back_questions()?;
         Ok(())
     }
 }

@@ -1,85 +1,64 @@
-ghost use Rattle.std.specs.Prelude.{◌≡◌};
-ghost use Rattle.auction.specs.Answers.{answer as answer_of};
+ghost use Rattle.std.specs.Prelude.{◌≡◌, Ok, Err};
 ghost use Rattle.auction.specs.History.{turn as turn_of};
-ghost use Rattle.auction.specs.Steps.{step, enrolled, begun, closed, went_on};
+ghost use Rattle.auction.specs.Steps.{auction_question, step};
 ghost use Rattle.auction.specs.Views.{state};
+ghost use Rattle.auction.specs.declared.calls.Answer.TheVariants.{Refused};
 
 use crate::auction::Auction;
 use crate::calls::{Answer, Call, Turn};
-use crate::clocks::{Closed, EnrolmentClock, OpenClock, ShutClock, Stamp};
+use crate::clocks::{Closed, EnrolmentClock, OpenClock, ShutClock};
 use crate::refusal::Refusal;
-use book::Application;
 use curve::Curve;
 use ranking::{Exit, Order};
 
-fn told(res: Result<(), Refusal>, done: Answer) -> Answer
-    ensures { result ≡ answer_of (λ _. done) res }
+// The answer of a call: what `done` makes of its result, or the number of the question that refused it.
+fn told<T, F: FnOnce(T) -> Answer>(res: Result<T, Refusal>, done: F) -> Answer
+    requires { F.IsAlwaysCallable done }
+    ensures { elim res [ Ok made ↦ F.post done made result | Err why ↦ result ≡ Refused (auction_question why) ] }
 {
     match res {
-        Ok(()) => done,
+        Ok(made) => done(made),
         Err(why) => Answer::Refused(why.number()),
     }
 }
 
 impl<C: Curve, O: Order<Item = Exit>> Auction<C, O> {
-    fn told_enrol(&mut self, stamp: Stamp, application: &Application) -> Answer
-        ensures { (state C.Curve.meaning O.Order.ahead self.new, result) ≡ enrolled (state C.Curve.meaning O.Order.ahead self.old) stamp application.now }
-    {
-        match self.enrol(&EnrolmentClock { stamp }, application) {
-            Ok(unit) => Answer::Enrolled(unit),
-            Err(why) => Answer::Refused(why.number()),
-        }
-    }
-
-    fn told_begin(&mut self, stamp: Stamp) -> Answer
-        ensures { (state C.Curve.meaning O.Order.ahead self.new, result) ≡ begun (state C.Curve.meaning O.Order.ahead self.old) stamp }
-    {
-        match self.begin(EnrolmentClock { stamp }) {
-            Ok(clock) => Answer::Begun(clock.stamp),
-            Err(kept) => Answer::Refused(kept.why.number()),
-        }
-    }
-
-    fn told_close(&mut self, stamp: Stamp) -> Answer
-        ensures { (state C.Curve.meaning O.Order.ahead self.new, result) ≡ closed (state C.Curve.meaning O.Order.ahead self.old) stamp }
-    {
-        match self.close(OpenClock { stamp }) {
-            Ok((figures, Closed::Shut(clock))) => Answer::ClosedShut(figures, clock.stamp),
-            Ok((figures, Closed::Settled(clock))) => Answer::ClosedSettled(figures, clock.stamp),
-            Err(kept) => Answer::Refused(kept.why.number()),
-        }
-    }
-
-    fn told_next(&mut self, stamp: Stamp) -> Answer
-        ensures { (state C.Curve.meaning O.Order.ahead self.new, result) ≡ went_on (state C.Curve.meaning O.Order.ahead self.old) stamp }
-    {
-        match self.next(ShutClock { stamp }) {
-            Ok(clock) => Answer::Opened(clock.stamp),
-            Err(kept) => Answer::Refused(kept.why.number()),
-        }
-    }
-
     // Makes a call with a clock of these numbers.
     pub(crate) fn call(&mut self, call: Call) -> Answer
         ensures { (state C.Curve.meaning O.Order.ahead self.new, result) ≡ step (state C.Curve.meaning O.Order.ahead self.old) call }
     {
         match call {
-            Call::Enrol(stamp, application) => self.told_enrol(stamp, &application),
-            Call::Begin(stamp) => self.told_begin(stamp),
+            Call::Enrol(stamp, application) => told(
+                self.enrol(&EnrolmentClock { stamp }, &application),
+                |unit| Answer::Enrolled(unit),
+            ),
+            Call::Begin(stamp) => told(
+                self.begin(EnrolmentClock { stamp }).map_err(|kept| kept.why),
+                |clock| Answer::Begun(clock.stamp),
+            ),
             Call::Exit(stamp, unit, price) => told(
                 self.exit(&OpenClock { stamp }, unit, price),
-                Answer::Entered,
+                |()| Answer::Entered,
             ),
             Call::Years(stamp, unit, years) => told(
                 self.years(&OpenClock { stamp }, unit, years),
-                Answer::Entered,
+                |()| Answer::Entered,
             ),
             Call::StepBack(stamp) => told(
                 self.step_back(&OpenClock { stamp }),
-                Answer::SteppedBack,
+                |()| Answer::SteppedBack,
             ),
-            Call::Close(stamp) => self.told_close(stamp),
-            Call::Next(stamp) => self.told_next(stamp),
+            Call::Close(stamp) => told(
+                self.close(OpenClock { stamp }).map_err(|kept| kept.why),
+                |(figures, closed)| match closed {
+                    Closed::Shut(clock) => Answer::ClosedShut(figures, clock.stamp),
+                    Closed::Settled(clock) => Answer::ClosedSettled(figures, clock.stamp),
+                },
+            ),
+            Call::Next(stamp) => told(
+                self.next(ShutClock { stamp }).map_err(|kept| kept.why),
+                |clock| Answer::Opened(clock.stamp),
+            ),
         }
     }
 
@@ -88,7 +67,6 @@ impl<C: Curve, O: Order<Item = Exit>> Auction<C, O> {
         ensures auction { state C.Curve.meaning O.Order.ahead self.new ≡ (step (state C.Curve.meaning O.Order.ahead self.old) turn.old.call).0 }
         ensures turn { turn.new ≡ turn_of turn.old.call (step (state C.Curve.meaning O.Order.ahead self.old) turn.old.call).1 }
     {
-        let answer = self.call(turn.call);
-        turn.answer = answer;
+        turn.answer = self.call(turn.call);
     }
 }

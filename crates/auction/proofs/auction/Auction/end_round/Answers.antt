@@ -5,7 +5,12 @@ use Rattle.auction.proofs.Above.{above_closed}
 use Rattle.auction.proofs.Floors.{shut_has_floor}
 use Rattle.auction.proofs.auction.Auction.end_round.Goals as goal
 
-pub invariant_of-self-2 : goal.invariant_of-self-2
-invariant_of-self-2 g c =
+pub invariant_of-self-2-clause-left : goal.invariant_of-self-2-clause-left
+invariant_of-self-2-clause-left g c =
     let was = c.args.self.now in
-    record { low = was.low; falls = was.falls; counted = was.counted; left = shut_has_floor _ (g.met.C.Curve.keeps was.curve) _ (books was.book) was.book.kept (sym c.clears.ensures ∙ c.if-clears.false); above = ap (book_above (was.top - was.spread)) c.close.ensures ∙ above_closed _ (books was.book) was.above }
+    shut_has_floor _ (g.met.C.Curve.keeps was.curve) _ (books was.book) was.book.kept (sym c.clears.ensures ∙ c.if-clears.false)
+
+pub invariant_of-self-2-clause-above : goal.invariant_of-self-2-clause-above
+invariant_of-self-2-clause-above g c =
+    let was = c.args.self.now in
+    ap (book_above (was.top - was.spread)) c.close.ensures ∙ above_closed _ (books was.book) was.above

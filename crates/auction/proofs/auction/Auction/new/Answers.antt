@@ -1,9 +1,16 @@
-use Rattle.std.proofs.Common.{◌-◌, refl, ap, ◌∙◌, arith}
+use Rattle.std.proofs.Common.{◌-◌, ap, ◌∙◌, arith}
 use Rattle.auction.specs.Sound.{book_above}
 use Rattle.auction.proofs.Above.{open_allowed, above_none}
 use Rattle.auction.proofs.auction.Auction.new.Goals as goal
 
-pub invariant_of-result : goal.invariant_of-result
-invariant_of-result g c =
-    let fit = open_allowed (g.C.Curve.meaning c.args.curve) c.args.«cap» c.args.spread c.args.threshold c.requires in
-    record { low = fit.0; falls = fit.1; counted = omega arith; left = refl; above = ap (book_above (c.args.«cap» - c.args.spread)) c.new.ensures ∙ above_none _ }
+pub invariant_of-result-clause-low : goal.invariant_of-result-clause-low
+invariant_of-result-clause-low g c = (open_allowed (g.C.Curve.meaning c.args.curve) c.args.«cap» c.args.spread c.args.threshold c.requires).0
+
+pub invariant_of-result-clause-falls : goal.invariant_of-result-clause-falls
+invariant_of-result-clause-falls g c = (open_allowed (g.C.Curve.meaning c.args.curve) c.args.«cap» c.args.spread c.args.threshold c.requires).1
+
+pub invariant_of-result-clause-counted : goal.invariant_of-result-clause-counted
+invariant_of-result-clause-counted g c = let low = (open_allowed (g.C.Curve.meaning c.args.curve) c.args.«cap» c.args.spread c.args.threshold c.requires).0 in omega arith
+
+pub invariant_of-result-clause-above : goal.invariant_of-result-clause-above
+invariant_of-result-clause-above g c = ap (book_above (c.args.«cap» - c.args.spread)) c.new.ensures ∙ above_none _
