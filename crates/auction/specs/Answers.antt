@@ -5,7 +5,7 @@ use Rattle.auction.specs.declared.calls.Answer.TheVariants.{Refused, ClosedShut,
 use Rattle.auction.specs.declared.calls.Figures.{Figures}
 use Rattle.auction.specs.declared.clocks.Closed.{Closed}
 use Rattle.auction.specs.declared.clocks.Closed.TheVariants.{Shut, Settled}
-use Rattle.auction.specs.declared.kept.Kept.{Kept}
+use Rattle.auction.specs.declared.given_back.GivenBack.{GivenBack}
 use Rattle.auction.specs.declared.refusal.Refusal.{Refusal}
 use Rattle.auction.specs.Steps.{auction_question}
 
@@ -15,14 +15,14 @@ answer done (Ok a) = done a
 answer done (Err e) = Refused (auction_question e)
 
 -- the answer of a call that takes its clock
-abbrev pub traded : {A K : Type 0} → (A → Answer) → Result A (Kept K) → Answer
+abbrev pub traded : {A K : Type 0} → (A → Answer) → Result A (GivenBack K Refusal) → Answer
 traded done (Ok a) = done a
 traded done (Err kept) = Refused (auction_question kept.why)
 
 -- a refusal gives the very clock back
-abbrev pub GivesBack : {A K : Type 0} → K → Result A (Kept K) → Type 0
+abbrev pub GivesBack : {A K : Type 0} → K → Result A (GivenBack K Refusal) → Type 0
 GivesBack clock (Ok a) = Unit {0}
-GivesBack clock (Err kept) = kept.clock ≡ clock
+GivesBack clock (Err kept) = kept.value ≡ clock
 
 -- the answer of a Close that was carried out
 abbrev pub close_answer : Figures → Closed → Answer

@@ -14,14 +14,14 @@ pub enum Call {
 }
 
 // What a Close answers: the capacity in and the demand at the floor.
-#[derive(Clone, Copy)]
+#[derive(Clone, Copy, PartialEq, Eq, Debug)]
 pub struct Figures {
     pub capacity_in: u32,
     pub demand: u32,
 }
 
 // What a call answered: the number of a question, or its result with the clock that it gave.
-#[derive(Clone, Copy)]
+#[derive(Clone, Copy, PartialEq, Eq, Debug)]
 pub enum Answer {
     Refused(u32),
     Enrolled(usize),

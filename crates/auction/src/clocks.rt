@@ -1,3 +1,8 @@
+ghost use Rattle.std.specs.Prelude.{◌≡◌};
+
+use crate::kinds::{Enrolling, Open, Settled, Shut};
+use std::marker::PhantomData;
+
 // The stage of an auction, which is the kind of its clock.
 #[derive(Clone, Copy, PartialEq, Eq, Debug)]
 pub enum Stage {
@@ -14,28 +19,34 @@ pub struct Stamp {
     pub round: u32,
 }
 
-// The clock under which units are enrolled.
+// The clock of an auction at the stage that `K` says.
 #[derive(Drop)]
-pub struct EnrolmentClock {
+pub struct Clock<K> {
     pub(crate) stamp: Stamp,
+    kind: PhantomData<K>,
 }
+
+// The clock under which units are enrolled.
+pub type EnrolmentClock = Clock<Enrolling>;
 
 // The clock of a round that takes entries.
-#[derive(Drop)]
-pub struct OpenClock {
-    pub(crate) stamp: Stamp,
-}
+pub type OpenClock = Clock<Open>;
 
 // The clock of a round that was closed and did not clear.
-#[derive(Drop)]
-pub struct ShutClock {
-    pub(crate) stamp: Stamp,
-}
+pub type ShutClock = Clock<Shut>;
 
 // The clock of a round that cleared.
-#[derive(Drop)]
-pub struct SettledClock {
-    pub(crate) stamp: Stamp,
+pub type SettledClock = Clock<Settled>;
+
+impl<K> Clock<K> {
+    pub(crate) fn new(stamp: Stamp) -> Clock<K>
+        ensures { result.stamp ≡ stamp }
+    {
+        Clock {
+            stamp,
+            kind: PhantomData,
+        }
+    }
 }
 
 // What closing a round gives: the clock of a round that did not clear, or of one that did.

@@ -4,15 +4,16 @@ ghost use Rattle.auction.specs.Live.{live_clock};
 ghost use Rattle.auction.specs.Promise.{calls_of, Promise};
 ghost use Rattle.auction.specs.Reading.{SettledPriced};
 ghost use Rattle.auction.specs.State.{stamp_of};
-ghost use Rattle.auction.specs.Steps.{auction_question, open_questions, opened};
-ghost use Rattle.auction.specs.Views.{state};
+ghost use Rattle.auction.specs.Steps.{auction_question, open_questions};
+ghost use Rattle.auction.specs.Views.{state, opened_with};
 ghost use Rattle.curve.specs.Questions.{refused, first_no};
 
 use crate::auction::Auction;
-use crate::auction::open::Unopened;
 use crate::calls::Turn;
+use crate::given_back::GivenBack;
 use crate::live::Live;
-use book::Room;
+use crate::refusal::Refusal;
+use crate::setting::{Prices, Setting};
 use curve::Curve;
 use ranking::{Exit, Order};
 
@@ -30,22 +31,18 @@ fn make_turns<C: Curve, O: Order<Item = Exit>>(auction: &mut Auction<C, O>, turn
 // the answers; gives the auction with the clock that it stands at. Refused by Open, it leaves the turns as they were.
 pub fn conduct<C: Curve, O: Order<Item = Exit>>(
     number: u16,
-    cap: u32,
-    spread: u32,
-    threshold: u32,
-    curve: C,
-    order: O,
-    room: Room,
+    prices: Prices,
+    setting: Setting<C, O>,
     turns: &mut [Turn],
-) -> Result<(Auction<C, O>, Live), Unopened<C, O>>
-    ensures refusal { refused (λ e. auction_question e.why) result ≡ first_no (open_questions (C.Curve.meaning curve) «cap» spread threshold) }
-    ensures back { elim result [ Ok made ↦ Unit {0} | Err e ↦ (e.curve ≡ curve) × (e.order ≡ order) × (e.room ≡ room) × (turns.new ≡ turns.old) ] }
-    ensures plays { elim result [ Ok made ↦ (turns.new ≡ played (opened number «cap» spread threshold (C.Curve.meaning curve) (O.Order.ahead order)) (calls_of turns.old)) × (state C.Curve.meaning O.Order.ahead made.0 ≡ ended (opened number «cap» spread threshold (C.Curve.meaning curve) (O.Order.ahead order)) (calls_of turns.old)) | Err e ↦ Unit {0} ] }
+) -> Result<(Auction<C, O>, Live), GivenBack<Setting<C, O>, Refusal>>
+    ensures refusal { refused (λ e. auction_question e.why) result ≡ first_no (open_questions (C.Curve.meaning setting.curve) prices.«cap» prices.spread prices.threshold) }
+    ensures back { elim result [ Ok made ↦ Unit {0} | Err e ↦ (e.value ≡ setting) × (turns.new ≡ turns.old) ] }
+    ensures plays { elim result [ Ok made ↦ (turns.new ≡ played (opened_with C.Curve.meaning O.Order.ahead number prices setting) (calls_of turns.old)) × (state C.Curve.meaning O.Order.ahead made.0 ≡ ended (opened_with C.Curve.meaning O.Order.ahead number prices setting) (calls_of turns.old)) | Err e ↦ Unit {0} ] }
     ensures live { elim result [ Ok made ↦ live_clock made.1 ≡ ((state C.Curve.meaning O.Order.ahead made.0).stage, stamp_of (state C.Curve.meaning O.Order.ahead made.0)) | Err e ↦ Unit {0} ] }
-    ensures promise { elim result [ Ok made ↦ Promise (opened number «cap» spread threshold (C.Curve.meaning curve) (O.Order.ahead order)) turns.new (state C.Curve.meaning O.Order.ahead made.0) | Err e ↦ Unit {0} ] }
+    ensures promise { elim result [ Ok made ↦ Promise (opened_with C.Curve.meaning O.Order.ahead number prices setting) turns.new (state C.Curve.meaning O.Order.ahead made.0) | Err e ↦ Unit {0} ] }
     ensures settled { elim result [ Ok made ↦ SettledPriced (state C.Curve.meaning O.Order.ahead made.0) | Err e ↦ Unit {0} ] }
 {
-    let (mut auction, _) = Auction::open(number, cap, spread, threshold, curve, order, room)?;
+    let (mut auction, _) = Auction::open(number, prices, setting)?;
     make_turns(&mut auction, turns);
     let live = auction.live();
     Ok((auction, live))

@@ -15,12 +15,12 @@ pub enum Refusal {
     Rows,
 }
 
-impl Refusal {
-    // The number under which docs/questions.md lists the question.
-    pub fn number(self) -> u32
-        ensures { result ≡ auction_question self }
-    {
-        match self {
+// The number under which docs/questions.md lists the question.
+impl From<Refusal> for u32 {
+    ghost from_gives = { λ refusal r. r ≡ auction_question refusal };
+
+    fn from(refusal: Refusal) -> u32 {
+        match refusal {
             Refusal::CapOrDemand => 6,
             Refusal::Spread => 7,
             Refusal::Threshold => 8,

@@ -6,7 +6,7 @@ ghost use Rattle.book.specs.Lawful.{out_if_priced};
 ghost use Rattle.book.specs.Views.{books};
 
 use crate::auction::Auction;
-use crate::clocks::{SettledClock, Stage};
+use crate::clocks::SettledClock;
 use crate::pricing::{MOST_EXITS, NO_EXIT, gather, price};
 use crate::refusal::Refusal;
 use book::{BookRefusal, Unit};
@@ -74,7 +74,7 @@ impl<C: Curve, O: Order<Item = Exit>> Auction<C, O> {
     pub fn settlement(&self, clock: &SettledClock) -> Result<Settlement, Refusal>
         ensures { numbered result ≡ settlement_read (state C.Curve.meaning O.Order.ahead self.now) clock.now.stamp }
     {
-        self.ask_clock(Stage::Settled, clock.stamp)?;
+        self.ask_clock(clock)?;
         Ok(self.settled())
     }
 
@@ -82,7 +82,7 @@ impl<C: Curve, O: Order<Item = Exit>> Auction<C, O> {
     pub fn award(&self, clock: &SettledClock, unit: usize) -> Result<(u32, u32), Refusal>
         ensures { numbered result ≡ award_read (state C.Curve.meaning O.Order.ahead self.now) clock.now.stamp unit }
     {
-        self.ask_clock(Stage::Settled, clock.stamp)?;
+        self.ask_clock(clock)?;
         if unit >= self.book.count() {
             return Err(Refusal::Book(BookRefusal::NoUnit));
         }

@@ -5,7 +5,7 @@ ghost use Rattle.auction.specs.Views.{state};
 ghost use Rattle.auction.specs.declared.calls.Answer.TheVariants.{Enrolled, Entered, SteppedBack};
 
 use crate::auction::Auction;
-use crate::clocks::{EnrolmentClock, OpenClock, Stage};
+use crate::clocks::{EnrolmentClock, OpenClock};
 use crate::refusal::Refusal;
 use book::Application;
 use curve::Curve;
@@ -20,7 +20,7 @@ impl<C: Curve, O: Order<Item = Exit>> Auction<C, O> {
     ) -> Result<usize, Refusal>
         ensures { (state C.Curve.meaning O.Order.ahead self.new, answer Enrolled result) ≡ enrolled (state C.Curve.meaning O.Order.ahead self.old) clock.now.stamp application.now }
     {
-        self.ask_clock(Stage::Enrolling, clock.stamp)?;
+        self.ask_clock(clock)?;
         self.book.enrol_questions(application)?;
         Ok(self.book.enrol(application))
     }
@@ -29,7 +29,7 @@ impl<C: Curve, O: Order<Item = Exit>> Auction<C, O> {
     pub fn exit(&mut self, clock: &OpenClock, unit: usize, price: u32) -> Result<(), Refusal>
         ensures { (state C.Curve.meaning O.Order.ahead self.new, answer (λ _. Entered) result) ≡ exited (state C.Curve.meaning O.Order.ahead self.old) clock.now.stamp unit price }
     {
-        self.ask_clock(Stage::Open, clock.stamp)?;
+        self.ask_clock(clock)?;
         self.book.exit_questions(self.terms(), unit, price)?;
         self.book.put_out(unit, price);
         Ok(())
@@ -39,7 +39,7 @@ impl<C: Curve, O: Order<Item = Exit>> Auction<C, O> {
     pub fn years(&mut self, clock: &OpenClock, unit: usize, years: u32) -> Result<(), Refusal>
         ensures { (state C.Curve.meaning O.Order.ahead self.new, answer (λ _. Entered) result) ≡ served (state C.Curve.meaning O.Order.ahead self.old) clock.now.stamp unit years }
     {
-        self.ask_clock(Stage::Open, clock.stamp)?;
+        self.ask_clock(clock)?;
         self.book.years_questions(unit, years)?;
         self.book.serve(unit, years);
         Ok(())
@@ -49,7 +49,7 @@ impl<C: Curve, O: Order<Item = Exit>> Auction<C, O> {
     pub fn step_back(&mut self, clock: &OpenClock) -> Result<(), Refusal>
         ensures { (state C.Curve.meaning O.Order.ahead self.new, answer (λ _. SteppedBack) result) ≡ went_back (state C.Curve.meaning O.Order.ahead self.old) clock.now.stamp }
     {
-        self.ask_clock(Stage::Open, clock.stamp)?;
+        self.ask_clock(clock)?;
         self.book.back_questions()?;
         self.book.step_back();
         Ok(())

@@ -1,38 +1,32 @@
 ghost use Rattle.std.specs.Prelude.{◌≡◌, None, Ok, Err};
-ghost use Rattle.auction.specs.Steps.{auction_question, open_questions, opened};
-ghost use Rattle.auction.specs.Views.{state};
+ghost use Rattle.auction.specs.Steps.{auction_question, open_questions};
+ghost use Rattle.auction.specs.Views.{state, opened_with};
 ghost use Rattle.curve.specs.Questions.{refused, first_no};
 
 use crate::auction::Auction;
-use crate::clocks::{EnrolmentClock, Stage, Stamp};
+use crate::clocks::{Clock, EnrolmentClock, Stage, Stamp};
+use crate::given_back::GivenBack;
 use crate::refusal::Refusal;
-use book::{Book, Room};
+use crate::setting::{Prices, Setting};
+use book::Book;
 use curve::Curve;
 use ranking::{Exit, ExitRanking, Order};
 
 // The largest price, in pence per kW and year.
 const MOST_PENCE: u32 = 10_000;
 
-// What was given to open an auction, given back with the question that was answered "no".
-#[derive(Drop)]
-pub struct Unopened<C, O> {
-    pub curve: C,
-    pub order: O,
-    pub room: Room,
-    pub why: Refusal,
-}
-
 // The questions of Open.
-pub fn check_open<C: Curve>(cap: u32, spread: u32, threshold: u32, curve: &C) -> Result<(), Refusal>
-    ensures { refused auction_question result ≡ first_no (open_questions (C.Curve.meaning curve.now) «cap» spread threshold) }
+pub fn check_open<C: Curve>(prices: Prices, curve: &C) -> Result<(), Refusal>
+    ensures { refused auction_question result ≡ first_no (open_questions (C.Curve.meaning curve.now) prices.«cap» prices.spread prices.threshold) }
 {
+    let cap = prices.cap;
     if cap < 1 || cap > MOST_PENCE || curve.demand(cap) == 0 {
         return Err(Refusal::CapOrDemand);
     }
-    if spread < 1 || spread > cap {
+    if prices.spread < 1 || prices.spread > cap {
         return Err(Refusal::Spread);
     }
-    if threshold > cap {
+    if prices.threshold > cap {
         return Err(Refusal::Threshold);
     }
     Ok(())
@@ -40,25 +34,18 @@ pub fn check_open<C: Curve>(cap: u32, spread: u32, threshold: u32, curve: &C) ->
 
 impl<C: Curve, O: Order<Item = Exit>> Auction<C, O> {
     // An auction with no unit enrolled.
-    fn new(
-        number: u16,
-        cap: u32,
-        spread: u32,
-        threshold: u32,
-        curve: C,
-        order: O,
-        room: Room,
-    ) -> Auction<C, O>
-        requires { first_no (open_questions (C.Curve.meaning curve) «cap» spread threshold) ≡ None }
-        ensures { state C.Curve.meaning O.Order.ahead result ≡ opened number «cap» spread threshold (C.Curve.meaning curve) (O.Order.ahead order) }
+    fn new(number: u16, prices: Prices, setting: Setting<C, O>) -> Auction<C, O>
+        requires { first_no (open_questions (C.Curve.meaning setting.curve) prices.«cap» prices.spread prices.threshold) ≡ None }
+        ensures { state C.Curve.meaning O.Order.ahead result ≡ opened_with C.Curve.meaning O.Order.ahead number prices setting }
     {
+        let Setting { curve, order, room } = setting;
         Auction {
             number,
             stage: Stage::Enrolling,
             round: 0,
-            top: cap,
-            spread,
-            threshold,
+            top: prices.cap,
+            spread: prices.spread,
+            threshold: prices.threshold,
             book: Book::new(room),
             curve,
             order: ExitRanking { ties: order },
@@ -68,26 +55,19 @@ impl<C: Curve, O: Order<Item = Exit>> Auction<C, O> {
     // Opens an auction, with its enrolment clock; refused, it gives curve, order and room back.
     pub fn open(
         number: u16,
-        cap: u32,
-        spread: u32,
-        threshold: u32,
-        curve: C,
-        order: O,
-        room: Room,
-    ) -> Result<(Auction<C, O>, EnrolmentClock), Unopened<C, O>>
-        ensures refusal { refused (λ e. auction_question e.why) result ≡ first_no (open_questions (C.Curve.meaning curve) «cap» spread threshold) }
-        ensures opens { elim result [ Ok made ↦ (state C.Curve.meaning O.Order.ahead made.0 ≡ opened number «cap» spread threshold (C.Curve.meaning curve) (O.Order.ahead order)) × (made.1.stamp ≡ record { number = number; round = 0 }) | Err e ↦ (e.curve ≡ curve) × (e.order ≡ order) × (e.room ≡ room) ] }
+        prices: Prices,
+        setting: Setting<C, O>,
+    ) -> Result<(Auction<C, O>, EnrolmentClock), GivenBack<Setting<C, O>, Refusal>>
+        ensures refusal { refused (λ e. auction_question e.why) result ≡ first_no (open_questions (C.Curve.meaning setting.curve) prices.«cap» prices.spread prices.threshold) }
+        ensures opens { elim result [ Ok made ↦ (state C.Curve.meaning O.Order.ahead made.0 ≡ opened_with C.Curve.meaning O.Order.ahead number prices setting) × (made.1.stamp ≡ record { number = number; round = 0 }) | Err e ↦ e.value ≡ setting ] }
     {
-        match check_open(cap, spread, threshold, &curve) {
-            Ok(()) => {
-                let auction = Auction::new(number, cap, spread, threshold, curve, order, room);
-                let stamp = Stamp { number, round: 0 };
-                Ok((auction, EnrolmentClock { stamp }))
-            }
-            Err(why) => Err(Unopened {
-                curve,
-                order,
-                room,
+        match check_open(prices, &setting.curve) {
+            Ok(()) => Ok((
+                Auction::new(number, prices, setting),
+                Clock::new(Stamp { number, round: 0 }),
+            )),
+            Err(why) => Err(GivenBack {
+                value: setting,
                 why,
             }),
         }

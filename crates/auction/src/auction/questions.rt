@@ -5,7 +5,8 @@ ghost use Rattle.auction.specs.Views.{state};
 ghost use Rattle.curve.specs.Questions.{refused, first_no};
 
 use crate::auction::Auction;
-use crate::clocks::{Stage, Stamp};
+use crate::clocks::Clock;
+use crate::kinds::ClockKind;
 use crate::refusal::Refusal;
 use book::Terms;
 use curve::Curve;
@@ -29,18 +30,18 @@ impl<C: Curve, O: Order<Item = Exit>> Auction<C, O> {
         }
     }
 
-    // Whether a clock of this stage with these numbers is the auction's own.
-    fn has_clock(&self, stage: Stage, stamp: Stamp) -> bool
-        ensures { result ≡ current (state C.Curve.meaning O.Order.ahead self.now) stage stamp }
+    // Whether a clock is the auction's own.
+    fn has_clock<K: ClockKind>(&self, clock: &Clock<K>) -> bool
+        ensures { result ≡ current (state C.Curve.meaning O.Order.ahead self.now) K.STAGE clock.now.stamp }
     {
-        self.stage == stage && stamp == self.stamp()
+        self.stage == K::STAGE && clock.stamp == self.stamp()
     }
 
     // Question 9.
-    pub(super) fn ask_clock(&self, stage: Stage, stamp: Stamp) -> Result<(), Refusal>
-        ensures { refused auction_question result ≡ first_no (own_clock (state C.Curve.meaning O.Order.ahead self.now) stage stamp ∷ []) }
+    pub(super) fn ask_clock<K: ClockKind>(&self, clock: &Clock<K>) -> Result<(), Refusal>
+        ensures { refused auction_question result ≡ first_no (own_clock (state C.Curve.meaning O.Order.ahead self.now) K.STAGE clock.now.stamp ∷ []) }
     {
-        if !self.has_clock(stage, stamp) {
+        if !self.has_clock(clock) {
             return Err(Refusal::Clock);
         }
         Ok(())

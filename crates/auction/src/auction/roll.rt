@@ -7,7 +7,7 @@ ghost use Rattle.book.specs.Views.{books};
 
 use crate::auction::Auction;
 use crate::auction::awards::is_awarded;
-use crate::clocks::{SettledClock, Stage};
+use crate::clocks::SettledClock;
 use crate::gathering::{put_any, write_front};
 use crate::pricing::{MOST_EXITS, NO_EXIT};
 use crate::refusal::Refusal;
@@ -74,7 +74,7 @@ impl<C: Curve, O: Order<Item = Exit>> Auction<C, O> {
     pub fn roll(&self, clock: &SettledClock, rows: &mut [RollRow]) -> Result<usize, Refusal>
         ensures { (numbered result, rows.new) ≡ roll_read (state C.Curve.meaning O.Order.ahead self.now) clock.now.stamp rows.old }
     {
-        self.ask_clock(Stage::Settled, clock.stamp)?;
+        self.ask_clock(clock)?;
         let mut table = [NO_ROW; MOST_ROWS];
         let len = self.roll_rows(&mut table);
         if len > rows.len() {

@@ -1,25 +1,21 @@
-ghost use Rattle.std.specs.Prelude.{◌≡◌, ◌+◌};
+ghost use Rattle.std.specs.Prelude.{◌≡◌, ◌+◌, [], ◌∷◌};
 ghost use Rattle.auction.specs.Answers.{traded, GivesBack, close_answer};
 ghost use Rattle.auction.specs.State.{stamp_of, floor_of, in_of};
 ghost use Rattle.auction.specs.Endings.{ended_round};
-ghost use Rattle.auction.specs.Steps.{begun, closed, went_on, figures_of};
+ghost use Rattle.auction.specs.Steps.{auction_question, own_clock, begun, closed, went_on, figures_of};
 ghost use Rattle.auction.specs.Views.{state};
+ghost use Rattle.curve.specs.Questions.{refused, first_no};
 ghost use Rattle.curve.specs.Words.{within};
 ghost use Rattle.auction.specs.declared.calls.Answer.TheVariants.{Begun, Opened};
 
 use crate::auction::Auction;
 use crate::calls::Figures;
-use crate::clocks::{Closed, EnrolmentClock, OpenClock, SettledClock, ShutClock, Stage, Stamp};
-use crate::kept::Kept;
+use crate::clocks::{Clock, Closed, EnrolmentClock, OpenClock, ShutClock, Stage, Stamp};
+use crate::given_back::GivenBack;
+use crate::kinds::ClockKind;
+use crate::refusal::Refusal;
 use curve::Curve;
 use ranking::{Exit, Order};
-
-// The number of a round and its cap.
-#[derive(Clone, Copy)]
-struct Round {
-    number: u32,
-    top: u32,
-}
 
 impl<C: Curve, O: Order<Item = Exit>> Auction<C, O> {
     // The numbers on the auction's own clock.
@@ -48,18 +44,30 @@ impl<C: Curve, O: Order<Item = Exit>> Auction<C, O> {
         self.curve.is_within(self.floor(), self.book.capacity_in())
     }
 
+    // Takes a clock if it is the auction's own, else gives it back.
+    fn spend<K: ClockKind + Drop>(
+        &self,
+        clock: Clock<K>,
+    ) -> Result<(), GivenBack<Clock<K>, Refusal>>
+        ensures refusal { refused (λ e. auction_question e.why) result ≡ first_no (own_clock (state C.Curve.meaning O.Order.ahead self.now) K.STAGE clock.stamp ∷ []) }
+        ensures back { GivesBack clock result }
+    {
+        self.ask_clock(&clock)
+            .map_err(|why| GivenBack { value: clock, why })
+    }
+
     // Ends the enrolment, and opens round 1.
-    pub fn begin(&mut self, clock: EnrolmentClock) -> Result<OpenClock, Kept<EnrolmentClock>>
+    pub fn begin(
+        &mut self,
+        clock: EnrolmentClock,
+    ) -> Result<OpenClock, GivenBack<EnrolmentClock, Refusal>>
         ensures step { (state C.Curve.meaning O.Order.ahead self.new, traded (λ made. Begun made.stamp) result) ≡ begun (state C.Curve.meaning O.Order.ahead self.old) clock.stamp }
         ensures back { GivesBack clock result }
     {
-        if let Err(why) = self.ask_clock(Stage::Enrolling, clock.stamp) {
-            return Err(Kept { clock, why });
-        }
+        self.spend(clock)?;
         self.stage = Stage::Open;
         self.round = 1;
-        let stamp = self.stamp();
-        Ok(OpenClock { stamp })
+        Ok(Clock::new(self.stamp()))
     }
 
     // Ends the round, which settles if it clears.
@@ -69,49 +77,37 @@ impl<C: Curve, O: Order<Item = Exit>> Auction<C, O> {
         let stamp = self.stamp();
         if self.clears() {
             self.stage = Stage::Settled;
-            return Closed::Settled(SettledClock { stamp });
+            return Closed::Settled(Clock::new(stamp));
         }
         self.book.close();
         self.stage = Stage::Shut;
-        Closed::Shut(ShutClock { stamp })
+        Closed::Shut(Clock::new(stamp))
     }
 
     // Closes the round, and answers the capacity in and the demand at the floor.
-    pub fn close(&mut self, clock: OpenClock) -> Result<(Figures, Closed), Kept<OpenClock>>
+    pub fn close(
+        &mut self,
+        clock: OpenClock,
+    ) -> Result<(Figures, Closed), GivenBack<OpenClock, Refusal>>
         ensures step { (state C.Curve.meaning O.Order.ahead self.new, traded (λ made. close_answer made.0 made.1) result) ≡ closed (state C.Curve.meaning O.Order.ahead self.old) clock.stamp }
         ensures back { GivesBack clock result }
     {
-        if let Err(why) = self.ask_clock(Stage::Open, clock.stamp) {
-            return Err(Kept { clock, why });
-        }
+        self.spend(clock)?;
         let figures = self.figures();
         let closed = self.end_round();
         Ok((figures, closed))
     }
 
-    // The round that follows the present one: the old floor is its cap.
-    fn following(&self) -> Round
-        ensures { result ≡ record { number = self.now.round + 1; top = floor_of (state C.Curve.meaning O.Order.ahead self.now) } }
-    {
-        Round {
-            number: self.round + 1,
-            top: self.floor(),
-        }
-    }
-
     // Opens the round after one that did not clear.
-    pub fn next(&mut self, clock: ShutClock) -> Result<OpenClock, Kept<ShutClock>>
+    pub fn next(&mut self, clock: ShutClock) -> Result<OpenClock, GivenBack<ShutClock, Refusal>>
         ensures step { (state C.Curve.meaning O.Order.ahead self.new, traded (λ made. Opened made.stamp) result) ≡ went_on (state C.Curve.meaning O.Order.ahead self.old) clock.stamp }
         ensures back { GivesBack clock result }
     {
-        if let Err(why) = self.ask_clock(Stage::Shut, clock.stamp) {
-            return Err(Kept { clock, why });
-        }
-        let following = self.following();
+        self.spend(clock)?;
+        let floor = self.floor();
         self.stage = Stage::Open;
-        self.round = following.number;
-        self.top = following.top;
-        let stamp = self.stamp();
-        Ok(OpenClock { stamp })
+        self.round += 1;
+        self.top = floor;
+        Ok(Clock::new(self.stamp()))
     }
 }

@@ -4,7 +4,7 @@ ghost use Rattle.auction.specs.State.{stamp_of};
 ghost use Rattle.auction.specs.Views.{state};
 
 use crate::auction::Auction;
-use crate::clocks::{EnrolmentClock, OpenClock, SettledClock, ShutClock, Stage};
+use crate::clocks::{Clock, Stage};
 use crate::live::Live;
 use curve::Curve;
 use ranking::{Exit, Order};
@@ -16,10 +16,10 @@ impl<C: Curve, O: Order<Item = Exit>> Auction<C, O> {
     {
         let stamp = self.stamp();
         match self.stage {
-            Stage::Enrolling => Live::Enrolling(EnrolmentClock { stamp }),
-            Stage::Open => Live::Open(OpenClock { stamp }),
-            Stage::Shut => Live::Shut(ShutClock { stamp }),
-            Stage::Settled => Live::Settled(SettledClock { stamp }),
+            Stage::Enrolling => Live::Enrolling(Clock::new(stamp)),
+            Stage::Open => Live::Open(Clock::new(stamp)),
+            Stage::Shut => Live::Shut(Clock::new(stamp)),
+            Stage::Settled => Live::Settled(Clock::new(stamp)),
         }
     }
 }

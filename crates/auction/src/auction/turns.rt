@@ -6,7 +6,7 @@ ghost use Rattle.auction.specs.declared.calls.Answer.TheVariants.{Refused};
 
 use crate::auction::Auction;
 use crate::calls::{Answer, Call, Turn};
-use crate::clocks::{Closed, EnrolmentClock, OpenClock, ShutClock};
+use crate::clocks::{Clock, Closed};
 use crate::refusal::Refusal;
 use curve::Curve;
 use ranking::{Exit, Order};
@@ -18,7 +18,7 @@ fn told<T, F: FnOnce(T) -> Answer>(res: Result<T, Refusal>, done: F) -> Answer
 {
     match res {
         Ok(made) => done(made),
-        Err(why) => Answer::Refused(why.number()),
+        Err(why) => Answer::Refused(u32::from(why)),
     }
 }
 
@@ -29,34 +29,34 @@ impl<C: Curve, O: Order<Item = Exit>> Auction<C, O> {
     {
         match call {
             Call::Enrol(stamp, application) => told(
-                self.enrol(&EnrolmentClock { stamp }, &application),
-                |unit| Answer::Enrolled(unit),
+                self.enrol(&Clock::new(stamp), &application),
+                Answer::Enrolled,
             ),
             Call::Begin(stamp) => told(
-                self.begin(EnrolmentClock { stamp }).map_err(|kept| kept.why),
+                self.begin(Clock::new(stamp)).map_err(|back| back.why),
                 |clock| Answer::Begun(clock.stamp),
             ),
             Call::Exit(stamp, unit, price) => told(
-                self.exit(&OpenClock { stamp }, unit, price),
+                self.exit(&Clock::new(stamp), unit, price),
                 |()| Answer::Entered,
             ),
             Call::Years(stamp, unit, years) => told(
-                self.years(&OpenClock { stamp }, unit, years),
+                self.years(&Clock::new(stamp), unit, years),
                 |()| Answer::Entered,
             ),
             Call::StepBack(stamp) => told(
-                self.step_back(&OpenClock { stamp }),
+                self.step_back(&Clock::new(stamp)),
                 |()| Answer::SteppedBack,
             ),
             Call::Close(stamp) => told(
-                self.close(OpenClock { stamp }).map_err(|kept| kept.why),
+                self.close(Clock::new(stamp)).map_err(|back| back.why),
                 |(figures, closed)| match closed {
                     Closed::Shut(clock) => Answer::ClosedShut(figures, clock.stamp),
                     Closed::Settled(clock) => Answer::ClosedSettled(figures, clock.stamp),
                 },
             ),
             Call::Next(stamp) => told(
-                self.next(ShutClock { stamp }).map_err(|kept| kept.why),
+                self.next(Clock::new(stamp)).map_err(|back| back.why),
                 |clock| Answer::Opened(clock.stamp),
             ),
         }

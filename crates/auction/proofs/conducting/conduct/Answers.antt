@@ -11,7 +11,7 @@ returns g c =
     let calls = calls_of c.args.turns.now in
     let turns = c.make_turns.ensures.turns ∙ ap (λ (s : State). played s calls) start in
     let end = c.make_turns.ensures.auction ∙ ap (λ (s : State). ended s calls) start in
-    let promise = promised _ _ _ _ _ _ (g.met.C.Curve.keeps c.args.curve) (g.met.O.Order.laws c.args.order)
+    let promise = promised _ _ _ _ _ _ (g.met.C.Curve.keeps c.args.setting.curve) (g.met.O.Order.laws c.args.setting.order)
     (sym c.in_ok-auction.ensures.refusal) calls _ _ turns end in
     record {
       refusal = c.in_ok-auction.ensures.refusal;
