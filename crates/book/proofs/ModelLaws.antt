@@ -1,27 +1,21 @@
 -- Laws of the model of a book: what each operation leaves, and that an entry stepped back is undone. Assumes nothing.
-use Rattle.std.proofs.Common.{◌≡◌, ℕ, zero, suc, ◌+◌, ◌<◌, ◌≤◌, Bool, true, false, cond, leb, List, [], ◌∷◌, ◌++◌, length, get_or, set, Some, None, Option, refl, ap, arith}
+use Rattle.std.proofs.Common.{◌≡◌, ℕ, zero, suc, ◌+◌, ◌<◌, ◌≤◌, Bool, true, false, cond, leb, ◌||◌, List, [], ◌∷◌, ◌++◌, length, get_or, set, Some, None, sum_by, Option, refl, ap, arith}
+use Rattle.std.specs.List.{list_any}
 use Rattle.std.specs.Option.{option_to_list}
-use Rattle.book.specs.declared.class.Class.TheVariants.{Existing}
-use Rattle.book.specs.declared.class.Side.TheVariants.{Taker}
+use Rattle.std.proofs.lemmas.List.Sums.{sum_by-cons}
 use Rattle.book.specs.declared.entry.Entry.{Entry}
 use Rattle.book.specs.declared.entry.Entry.TheVariants.{Exit, Years}
 use Rattle.book.specs.declared.unit.Standing.{Standing}
 use Rattle.book.specs.declared.unit.Unit.{Unit as Row}
+use Rattle.book.specs.Asked.{named}
 use Rattle.book.specs.Books.{Books, no_unit, unit_at, stood, out_at, for_years, with_exit, with_years, undone, stepped_back, in_kw, capacity_inside, total_enrolled, leaving, exits_up_to}
 use Rattle.book.specs.Entries.{entry_unit, entry_former}
 use Rattle.book.specs.Exits.{exit_up_to, out_kw, capacity_out}
+use Rattle.book.specs.Names.{same_name}
 
 -- the units when the unit i stands otherwise
 abbrev pub with_standing : List Row → ℕ → Standing → List Row
 with_standing us i s = set us i (stood (get_or us i no_unit) s)
-
--- what reading past the end would give, which the code never does
-abbrev pub unread : Row
-unread =
-    record {
-      enrolled = record { capacity = 0; class = Existing; side = Taker; years = 0; random = 0; name = [] };
-      standing = record { years = 0; inside = false; exit = None };
-    }
 
 -- step back
 
@@ -74,6 +68,10 @@ total_one_more (v ∷ us) u = let rest = total_one_more us u in omega arith
 
 -- capacity in
 
+pub capacity_is : (us : List Row) → capacity_inside us ≡ sum_by in_kw us
+capacity_is [] = refl
+capacity_is (u ∷ us) = let more = sum_by-cons in_kw u us in let rest = capacity_is us in omega arith
+
 pub capacity_one_more : (us : List Row) (u : Row) → capacity_inside (us ++ (u ∷ [])) ≡ capacity_inside us + in_kw u
 capacity_one_more [] u = omega arith
 capacity_one_more (v ∷ us) u = let rest = capacity_one_more us u in omega arith
@@ -108,6 +106,12 @@ capacity_after_exit b i price lt inside =
 pub capacity_after_years : (b : Books) (i years : ℕ) → i < length b.units → capacity_inside (with_years b i years).units ≡ capacity_inside b.units
 capacity_after_years b i years lt =
     let change = capacity_changes b.units i (for_years (unit_at b i).standing years) lt in omega arith
+
+-- names
+
+pub named_is : (us : List Row) (name : List ℕ) → named us name ≡ list_any (λ (u : Row). same_name u.enrolled.name name) us
+named_is [] name = refl
+named_is (u ∷ us) name = ap (λ (b : Bool). same_name u.enrolled.name name || b) (named_is us name)
 
 -- exits
 

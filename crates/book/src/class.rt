@@ -3,7 +3,7 @@ ghost use Rattle.book.specs.Books.{class_of, class_number, most_years, side_numb
 ghost use Rattle.book.specs.Sides.{side_of};
 
 // The class of a unit, by which its most years go.
-#[derive(Clone, Copy)]
+#[derive(Clone, Copy, PartialEq, Eq, Debug)]
 pub enum Class {
     Existing,
     Refurbishing,
@@ -48,7 +48,7 @@ impl Class {
 }
 
 // Whether a unit takes the price, and so leaves only at or below the threshold, or makes it.
-#[derive(Clone, Copy)]
+#[derive(Clone, Copy, PartialEq, Eq, Debug)]
 pub enum Side {
     Taker,
     Maker,

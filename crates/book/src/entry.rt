@@ -4,7 +4,7 @@ ghost use Rattle.book.specs.Entries.{entry_unit, entry_former};
 use crate::unit::Standing;
 
 // An entry of the present round that still stands: of which unit, and how the unit stood before it.
-#[derive(Clone, Copy)]
+#[derive(Clone, Copy, PartialEq, Eq, Debug)]
 pub enum Entry {
     Exit { unit: usize, former: Standing },
     Years { unit: usize, former: Standing },

@@ -5,7 +5,7 @@ use crate::class::{Class, Side};
 use ranking::Name;
 
 // The terms of the round that is open; the threshold is the auction's in every round.
-#[derive(Clone, Copy)]
+#[derive(Clone, Copy, PartialEq, Eq, Debug)]
 pub struct Terms {
     pub cap: u32,
     pub floor: u32,
@@ -13,7 +13,7 @@ pub struct Terms {
 }
 
 // What is given to enrol a unit; the class comes as a number.
-#[derive(Clone, Copy)]
+#[derive(Clone, Copy, PartialEq, Eq, Debug)]
 pub struct Application {
     pub capacity: u32,
     pub class: u32,

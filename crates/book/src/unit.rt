@@ -4,12 +4,11 @@ ghost use Rattle.book.specs.Exits.{exit_up_to};
 ghost use Rattle.book.specs.Names.{same_name};
 
 use crate::class::{Class, Side};
-use crate::names::is_same_name;
 use crate::terms::Application;
 use ranking::{Exit, Name};
 
 // What a unit was enrolled with.
-#[derive(Clone, Copy)]
+#[derive(Clone, Copy, PartialEq, Eq, Debug)]
 pub struct Enrolment {
     pub capacity: u32,
     pub class: Class,
@@ -20,7 +19,7 @@ pub struct Enrolment {
 }
 
 // What an entry may change of a unit: its years now, whether it is in, and the price at which it left.
-#[derive(Clone, Copy)]
+#[derive(Clone, Copy, PartialEq, Eq, Debug)]
 pub struct Standing {
     pub years: u32,
     pub inside: bool,
@@ -40,7 +39,7 @@ impl Standing {
     }
 }
 
-#[derive(Clone, Copy)]
+#[derive(Clone, Copy, PartialEq, Eq, Debug)]
 pub struct Unit {
     pub enrolled: Enrolment,
     pub standing: Standing,
@@ -107,12 +106,9 @@ impl Unit {
     pub fn exit_up_to(&self, number: usize, cap: u32) -> Option<Exit>
         ensures { result ≡ exit_up_to «cap» number self.now }
     {
-        let Some(price) = self.standing.exit else {
+        let Some(price) = self.standing.exit.filter(|price| *price <= cap) else {
             return None;
         };
-        if price > cap {
-            return None;
-        }
         Some(Exit {
             unit: number,
             price,
@@ -126,6 +122,6 @@ impl Unit {
     pub(crate) fn is_named(&self, name: Name) -> bool
         ensures { result ≡ same_name self.now.enrolled.name name }
     {
-        is_same_name(self.enrolled.name, name)
+        self.enrolled.name == name
     }
 }

@@ -41,6 +41,13 @@ impl Book {
         self.standing_entries() < MOST_ENTRIES
     }
 
+    // The units by number.
+    pub fn units(&self) -> &[Unit]
+        ensures { result.now ≡ (books self.now).units }
+    {
+        self.table.rows.as_slice()
+    }
+
     pub fn unit(&self, i: usize) -> Unit
         requires { i < length (books self.now).units }
         ensures { result ≡ unit_at (books self.now) i }
@@ -69,22 +76,13 @@ impl Book {
     pub fn capacity_in(&self) -> u32
         ensures { result ≡ capacity_inside (books self.now).units }
     {
-        let mut sum = 0;
-        for unit in self.table.rows.as_slice() {
-            sum += unit.in_kw();
-        }
-        sum
+        self.units().iter().map(|unit| unit.in_kw()).sum()
     }
 
     fn is_named(&self, name: Name) -> bool
         ensures { result ≡ named (books self.now).units name }
     {
-        for unit in self.table.rows.as_slice() {
-            if unit.is_named(name) {
-                return true;
-            }
-        }
-        false
+        self.units().iter().any(|unit| unit.is_named(name))
     }
 
     pub fn enrol_questions(&self, application: &Application) -> Result<(), BookRefusal>
@@ -121,7 +119,7 @@ impl Book {
         if price <= terms.floor || price > terms.cap {
             return Err(BookRefusal::Price);
         }
-        if matches!(row.enrolled.side, Side::Taker) && price > terms.threshold {
+        if row.enrolled.side == Side::Taker && price > terms.threshold {
             return Err(BookRefusal::Threshold);
         }
         if !self.has_entry_room() {

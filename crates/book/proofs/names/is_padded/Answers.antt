@@ -1,25 +1,15 @@
-use Rattle.std.proofs.Common.{arith}
-use Rattle.std.proofs.lemmas.List.{at_drop_more, at_drop_all}
-use Rattle.std.proofs.lemmas.Bool.Decides.{nat_tests}
-use Rattle.book.proofs.NameLaws.{padded_on}
+use Rattle.std.specs.Prelude.{◌==◌}
+use Rattle.std.proofs.Common.{◌∙◌, sym, rules, tests}
+use Rattle.std.proofs.lemmas.Iterator.{YieldsList-from_slice}
+use Rattle.std.proofs.lemmas.Iterator.Adapters.{YieldsList-from_skip_while}
+use Rattle.std.proofs.lemmas.Iterator.Search.{all_from_yields_List}
+use Rattle.book.specs.Names.{name_character}
+use Rattle.book.proofs.NameLaws.{padded_is}
 use Rattle.book.proofs.names.is_padded.Goals as goal
-
-pub loop-b-preserved-then-is_name_character : goal.loop-b-preserved-then-is_name_character
-loop-b-preserved-then-is_name_character c =
-    let e = at_drop_more (padded_on c.loop-b.ended) c.args.name c.loop-b.b-index 0 (omega arith) in
-    grind (arith, nat_tests)
-
-pub returns-then-b-ne32 : goal.returns-then-b-ne32
-returns-then-b-ne32 c =
-    let e = at_drop_more (padded_on c.loop-b.ended) c.args.name c.loop-b.b-index 0 (omega arith) in
-    grind (arith, nat_tests)
-
-pub loop-b-preserved : goal.loop-b-preserved
-loop-b-preserved c =
-    let e = at_drop_more (padded_on c.loop-b.ended) c.args.name c.loop-b.b-index 0 (omega arith) in
-    grind (arith, nat_tests)
 
 pub returns : goal.returns
 returns c =
-    let e = at_drop_all (padded_on c.loop-b.ended) c.args.name c.loop-b.b-index (omega arith) in
-    grind (arith, nat_tests)
+    all_from_yields_List (λ b. b == 32) _ _ c.all.result c.all.ensures.ran
+    (YieldsList-from_skip_while _ _ _ name_character _ (λ x b q k. search (rules, tests)) (YieldsList-from_slice c.args.name (cc)) c.skip_while.ensures.closure c.skip_while.ensures.done_skipping)
+    (λ x b q k. search (rules, tests))
+    ∙ sym (padded_is c.args.name)
