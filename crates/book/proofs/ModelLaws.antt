@@ -4,12 +4,10 @@ use Rattle.std.specs.List.{list_any}
 use Rattle.std.specs.Option.{option_to_list}
 use Rattle.std.proofs.lemmas.List.Sums.{sum_by-cons}
 use Rattle.book.specs.declared.entry.Entry.{Entry}
-use Rattle.book.specs.declared.entry.Entry.TheVariants.{Exit, Years}
 use Rattle.book.specs.declared.unit.Standing.{Standing}
 use Rattle.book.specs.declared.unit.Unit.{Unit as Row}
 use Rattle.book.specs.Asked.{named}
 use Rattle.book.specs.Books.{Books, no_unit, unit_at, stood, out_at, for_years, with_exit, with_years, undone, stepped_back, in_kw, capacity_inside, total_enrolled, leaving, exits_up_to}
-use Rattle.book.specs.Entries.{entry_unit, entry_former}
 use Rattle.book.specs.Exits.{exit_up_to, out_kw, capacity_out}
 use Rattle.book.specs.Names.{same_name}
 
@@ -29,10 +27,6 @@ exit_stepped_back b i price = ap (λ (us : List Row). record { units = us; entri
 
 pub years_stepped_back : (b : Books) (i years : ℕ) → stepped_back (with_years b i years) ≡ b
 years_stepped_back b i years = ap (λ (us : List Row). record { units = us; entries = b.entries }) (stood_back b.units i (for_years (unit_at b i).standing years))
-
-pub undone_is : (us : List Row) (e : Entry) (es : List Entry) → undone us (e ∷ es) ≡ record { units = with_standing us (entry_unit e) (entry_former e); entries = es }
-undone_is us (Exit i former) es = refl
-undone_is us (Years i former) es = refl
 
 -- what was enrolled stays
 
@@ -56,8 +50,7 @@ total_after_years b i years = total_stays b.units i _
 
 total_undone : (us : List Row) (es : List Entry) → total_enrolled (undone us es).units ≡ total_enrolled us
 total_undone us [] = refl
-total_undone us (Exit i former ∷ es) = total_stays us i former
-total_undone us (Years i former ∷ es) = total_stays us i former
+total_undone us (e ∷ es) = total_stays us e.unit e.former
 
 pub total_after_step_back : (b : Books) → total_enrolled (stepped_back b).units ≡ total_enrolled b.units
 total_after_step_back b = total_undone b.units b.entries

@@ -6,15 +6,13 @@ use Rattle.std.proofs.lemmas.Bool.Decides.{nat_tests}
 use Rattle.book.specs.declared.class.Class.{Class}
 use Rattle.book.specs.declared.class.Class.TheVariants.{Existing}
 use Rattle.book.specs.declared.entry.Entry.{Entry}
-use Rattle.book.specs.declared.entry.Entry.TheVariants.{Exit, Years}
 use Rattle.book.specs.declared.terms.Application.{Application}
 use Rattle.book.specs.declared.terms.Terms.{Terms}
 use Rattle.book.specs.declared.unit.Enrolment.{Enrolment}
 use Rattle.book.specs.declared.unit.Standing.{Standing}
 use Rattle.book.specs.declared.unit.Unit.{Unit as Row}
 use Rattle.book.specs.Asked.{named, is_a_maker, years_known, enrol_questions, exit_questions, years_questions}
-use Rattle.book.specs.Books.{Books, no_books, no_unit, unit_at, stood, out_at, for_years, class_of, most_years, enrolled_as, new_unit, with_unit, with_exit, with_years, undone, stepped_back, closed_book, capacity_inside, total_enrolled}
-use Rattle.book.specs.Entries.{entry_unit, entry_former}
+use Rattle.book.specs.Books.{Books, no_books, no_unit, unit_at, stood, out_at, for_years, class_of, most_years, enrolled_as, new_unit, with_unit, with_entry, with_exit, undone, stepped_back, closed_book, capacity_inside, total_enrolled}
 use Rattle.book.specs.Lawful.{out_if_priced, lawful_standing, lawful_unit, lawful_units, distinct_names, stood_lawfully, lawful_entry, lawful_entries, lawful, can_leave}
 use Rattle.book.specs.Names.{same_name, well_formed}
 use Rattle.book.proofs.ModelLaws.{with_standing, enrolled_stays, total_stays, total_one_more, capacity_after_exit}
@@ -167,8 +165,7 @@ stood_lawfully_stood us i j s former h =
 
 entry_stood : (us : List Row) (i : ℕ) (s : Standing) (e : Entry) → lawful_entry us e ≡ true → lawful_entry (with_standing us i s) e ≡ true
 unfolding lawful_entry
-entry_stood us i s (Exit j former) h = stood_lawfully_stood us i j s former h
-entry_stood us i s (Years j former) h = stood_lawfully_stood us i j s former h
+entry_stood us i s e h = stood_lawfully_stood us i e.unit s e.former h
 
 entries_stood : (us : List Row) (i : ℕ) (s : Standing) (es : List Entry) → lawful_entries us es ≡ true → lawful_entries (with_standing us i s) es ≡ true
 unfolding lawful_entries
@@ -186,18 +183,16 @@ stood_lawfully_one_more us u j former h =
 
 entry_one_more : (us : List Row) (u : Row) (e : Entry) → lawful_entry us e ≡ true → lawful_entry (us ++ (u ∷ [])) e ≡ true
 unfolding lawful_entry
-entry_one_more us u (Exit j former) h = stood_lawfully_one_more us u j former h
-entry_one_more us u (Years j former) h = stood_lawfully_one_more us u j former h
+entry_one_more us u e h = stood_lawfully_one_more us u e.unit e.former h
 
 entries_one_more : (us : List Row) (u : Row) (es : List Entry) → lawful_entries us es ≡ true → lawful_entries (us ++ (u ∷ [])) es ≡ true
 unfolding lawful_entries
 entries_one_more us u [] h = refl
 entries_one_more us u (e ∷ es) h = let p = and_parts _ _ h in and_from _ _ (entry_one_more us u e p.0) (entries_one_more us u es p.1)
 
-pub entry_stood_lawfully : (us : List Row) (e : Entry) → lawful_entry us e ≡ true → (entry_unit e < length us) × (lawful_standing (get_or us (entry_unit e) no_unit).enrolled.years (entry_former e) ≡ true)
+pub entry_stood_lawfully : (us : List Row) (e : Entry) → lawful_entry us e ≡ true → (e.unit < length us) × (lawful_standing (get_or us e.unit no_unit).enrolled.years e.former ≡ true)
 unfolding lawful_entry
-entry_stood_lawfully us (Exit j former) h = let p = and_parts _ _ h in (ltb-true _ _ p.0, p.1)
-entry_stood_lawfully us (Years j former) h = let p = and_parts _ _ h in (ltb-true _ _ p.0, p.1)
+entry_stood_lawfully us e h = let p = and_parts _ _ h in (ltb-true _ _ p.0, p.1)
 
 pub latest_lawful : (us : List Row) (e : Entry) (es : List Entry) → lawful_entries us (e ∷ es) ≡ true → (lawful_entry us e ≡ true) × (lawful_entries us es ≡ true)
 unfolding lawful_entries
@@ -341,57 +336,45 @@ keeps_entry b e k one room =
 stands_at : (b : Books) (i : ℕ) → Keeps b → i < length b.units → lawful_standing (unit_at b i).enrolled.years (unit_at b i).standing ≡ true
 stands_at b i k lt = stands_lawful _ _ (unit_stands (unit_at b i) (lawful_at b.units i k.units lt))
 
-exit_entry : (us : List Row) (i : ℕ) (s : Standing) → i < length us → lawful_standing (get_or us i no_unit).enrolled.years s ≡ true → lawful_entry us (Exit i s) ≡ true
+-- the unit i stands otherwise, and that is an entry
+pub lawful_with_entry : (b : Books) (i : ℕ) (s : Standing) → lawful b ≡ true → stood_lawfully b.units i s ≡ true → length b.entries < 1024 → lawful (with_entry b i s) ≡ true
 unfolding lawful_entry
-exit_entry us i s lt stands = and_from _ _ (lt-ltb _ _ lt) stands
-
-years_entry : (us : List Row) (i : ℕ) (s : Standing) → i < length us → lawful_standing (get_or us i no_unit).enrolled.years s ≡ true → lawful_entry us (Years i s) ≡ true
-unfolding lawful_entry
-years_entry us i s lt stands = and_from _ _ (lt-ltb _ _ lt) stands
-
-pub lawful_with_exit : (b : Books) (i price : ℕ) → lawful b ≡ true → can_leave b i ≡ true → lawful (with_exit b i price) ≡ true
-lawful_with_exit b i price h allowed =
+lawful_with_entry b i s h allowed room =
     let k = lawful_keeps b h in
+    let p = and_parts _ _ allowed in
+    let former : Entry = record { unit = i; former = (unit_at b i).standing } in
+    let one : lawful_entry b.units former ≡ true = and_from _ _ p.0 (stands_at b i k (ltb-true _ _ p.0)) in
+    keeps_lawful _ (keeps_entry _ former (keeps_stood b i s k p.1) (entry_stood b.units i s former one) room)
+
+-- a unit that can leave may stand so
+pub exit_stands : (b : Books) (i price : ℕ) → lawful b ≡ true → can_leave b i ≡ true → stood_lawfully b.units i (out_at (unit_at b i).standing price) ≡ true
+exit_stands b i price h allowed =
     let a = leave_allowed b i allowed in
-    let was = stands_at b i k a.unit in
-    let s = lawful_stands _ _ was in
-    let out : Stands (unit_at b i).enrolled.years (out_at (unit_at b i).standing price)
-    = record { priced = refl; some = s.some; most = s.most } in
-    keeps_lawful _
-    (keeps_entry _ (Exit i (unit_at b i).standing) (keeps_stood b i _ k (stands_lawful _ _ out))
-    (entry_stood b.units i _ (Exit i (unit_at b i).standing) (exit_entry b.units i _ a.unit was))
-    a.room)
+    let s = lawful_stands _ _ (stands_at b i (lawful_keeps b h) a.unit) in
+    and_from _ _ (lt-ltb _ _ a.unit) (stands_lawful _ _ (record { priced = refl; some = s.some; most = s.most }))
 
-pub lawful_with_years : (b : Books) (i years : ℕ) → lawful b ≡ true → first_no (years_questions b i years) ≡ None → lawful (with_years b i years) ≡ true
-lawful_with_years b i years h allowed =
-    let k = lawful_keeps b h in
+pub years_stand : (b : Books) (i years : ℕ) → lawful b ≡ true → first_no (years_questions b i years) ≡ None → stood_lawfully b.units i (for_years (unit_at b i).standing years) ≡ true
+years_stand b i years h allowed =
     let a = years_allowed b i years allowed in
-    let was = stands_at b i k a.unit in
-    let s = lawful_stands _ _ was in
-    let serves : Stands (unit_at b i).enrolled.years (for_years (unit_at b i).standing years)
-    = record { priced = s.priced; some = a.some; most = omega arith } in
-    keeps_lawful _
-    (keeps_entry _ (Years i (unit_at b i).standing) (keeps_stood b i _ k (stands_lawful _ _ serves))
-    (entry_stood b.units i _ (Years i (unit_at b i).standing) (years_entry b.units i _ a.unit was))
-    a.room)
+    let s = lawful_stands _ _ (stands_at b i (lawful_keeps b h) a.unit) in
+    and_from _ _ (lt-ltb _ _ a.unit) (stands_lawful _ _ (record { priced = s.priced; some = a.some; most = omega arith }))
 
--- the latest entry undone, whichever it is
-pub lawful_undone : (us : List Row) (e : Entry) (es : List Entry) → lawful (record { units = us; entries = e ∷ es }) ≡ true → lawful (record { units = with_standing us (entry_unit e) (entry_former e); entries = es }) ≡ true
+-- the latest entry undone
+pub lawful_undone : (us : List Row) (e : Entry) (es : List Entry) → lawful (record { units = us; entries = e ∷ es }) ≡ true → lawful (record { units = with_standing us e.unit e.former; entries = es }) ≡ true
 lawful_undone us e es h =
     let k = lawful_keeps (record { units = us; entries = e ∷ es }) h in
     let few = k.few_entries in
     let parts = latest_lawful us e es k.entries in
     let before : Keeps (record { units = us; entries = es })
     = record { few_units = k.few_units; few_entries = omega arith; total = k.total; units = k.units; names = k.names; entries = parts.1 } in
-    keeps_lawful _ (keeps_stood (record { units = us; entries = es }) (entry_unit e) (entry_former e) before (entry_stood_lawfully us e parts.0).1)
+    keeps_lawful _ (keeps_stood (record { units = us; entries = es }) e.unit e.former before (entry_stood_lawfully us e parts.0).1)
 
 pub lawful_stepped_back : (b : Books) → lawful b ≡ true → lawful (stepped_back b) ≡ true
 lawful_stepped_back b h = cases b.entries h
   where
     cases : (es : List Entry) → lawful (record { units = b.units; entries = es }) ≡ true → lawful (undone b.units es) ≡ true
     cases [] l = l
-    cases (Exit i former ∷ es) l = lawful_undone b.units (Exit i former) es l
-    cases (Years i former ∷ es) l = lawful_undone b.units (Years i former) es l
+    cases (e ∷ es) l = lawful_undone b.units e es l
 
 no_entries : (us : List Row) → lawful_entries us [] ≡ true
 unfolding lawful_entries

@@ -2,16 +2,14 @@
 use Rattle.std.proofs.Common.{◌≡◌, ℕ, ◌+◌, ◌<◌, true, List, [], ◌∷◌, ◌++◌, reverse, length, get_or, set, None, sym, refl, ap, ◌∙◌, arith}
 use Rattle.std.proofs.lemmas.List.{reverse-append, get_or_read}
 use Rattle.book.specs.declared.entry.Entry.{Entry}
-use Rattle.book.specs.declared.entry.Entry.TheVariants.{Exit, Years}
 use Rattle.book.specs.declared.terms.Application.{Application}
 use Rattle.book.specs.declared.unit.Standing.{Standing}
 use Rattle.book.specs.declared.unit.Unit.{Unit as Row}
 use Rattle.book.specs.Asked.{enrol_questions}
-use Rattle.book.specs.Books.{Books, no_books, no_unit, new_unit, stood, out_at, for_years, with_exit, with_years, undone, stepped_back, total_enrolled}
-use Rattle.book.specs.Entries.{entry_unit, entry_former}
+use Rattle.book.specs.Books.{Books, no_books, no_unit, new_unit, stood, with_entry, undone, stepped_back, total_enrolled}
 use Rattle.book.specs.Lawful.{lawful}
 use Rattle.curve.specs.Questions.{first_no}
-use Rattle.book.proofs.ModelLaws.{with_standing, total_stays, total_one_more, undone_is}
+use Rattle.book.proofs.ModelLaws.{with_standing, total_stays, total_one_more}
 use Rattle.book.proofs.Rules.{lawful_keeps, latest_lawful, entry_stood_lawfully, lawful_undone, lawful_with_unit, new_capacity}
 
 -- a book from its units and its entries, the oldest first
@@ -32,52 +30,42 @@ rewritten us vs i r w s same lt read e =
     let at : r ≡ get_or us i no_unit = get_or_read us i r lt (read ∙ ap (λ (xs : List Row). get_or xs i r) same) no_unit in
     ap (λ (xs : List Row). set xs i w) same ∙ ap (λ (x : Row). set us i x) (e ∙ ap (λ (x : Row). stood x s) at)
 
-pub exit_written : (us vs : List Row) (es fs : List Entry) (i price : ℕ) (r w : Row) → vs ≡ us → i < length us → r ≡ get_or vs i r → w ≡ stood r (out_at r.standing price) → fs ≡ es ++ (Exit i r.standing ∷ []) → held (set vs i w) fs ≡ with_exit (held us es) i price
-exit_written us vs es fs i price r w same lt read e pushed =
+-- and the entry that holds how it stood before
+pub entry_written : (us vs : List Row) (es fs : List Entry) (i : ℕ) (s : Standing) (r : Row) → vs ≡ us → i < length us → r ≡ get_or vs i r → fs ≡ es ++ (record { unit = i; former = r.standing } ∷ []) → held (set vs i (stood r s)) fs ≡ with_entry (held us es) i s
+entry_written us vs es fs i s r same lt read pushed =
     let at : r ≡ get_or us i no_unit = get_or_read us i r lt (read ∙ ap (λ (xs : List Row). get_or xs i r) same) no_unit in
-    let row = rewritten us vs i r w _ same lt read e in
-    let latest = latest_first es fs _ pushed in
-    ap (λ (xs : List Row). record { units = xs; entries = reverse fs }) row
-    ∙ ap (λ (ys : List Entry). record { units = with_standing us i (out_at r.standing price); entries = ys }) latest
-    ∙ ap (λ (x : Row). record { units = with_standing us i (out_at x.standing price); entries = Exit i x.standing ∷ reverse es }) at
-
-pub years_written : (us vs : List Row) (es fs : List Entry) (i years : ℕ) (r w : Row) → vs ≡ us → i < length us → r ≡ get_or vs i r → w ≡ stood r (for_years r.standing years) → fs ≡ es ++ (Years i r.standing ∷ []) → held (set vs i w) fs ≡ with_years (held us es) i years
-years_written us vs es fs i years r w same lt read e pushed =
-    let at : r ≡ get_or us i no_unit = get_or_read us i r lt (read ∙ ap (λ (xs : List Row). get_or xs i r) same) no_unit in
-    let row = rewritten us vs i r w _ same lt read e in
-    let latest = latest_first es fs _ pushed in
-    ap (λ (xs : List Row). record { units = xs; entries = reverse fs }) row
-    ∙ ap (λ (ys : List Entry). record { units = with_standing us i (for_years r.standing years); entries = ys }) latest
-    ∙ ap (λ (x : Row). record { units = with_standing us i (for_years x.standing years); entries = Years i x.standing ∷ reverse es }) at
+    ap (λ (xs : List Row). record { units = xs; entries = reverse fs }) (rewritten us vs i r (stood r s) s same lt read refl)
+    ∙ ap (λ (ys : List Entry). record { units = with_standing us i s; entries = ys }) (latest_first es fs _ pushed)
+    ∙ ap (λ (x : Row). record { units = with_standing us i s; entries = record { unit = i; former = x.standing } ∷ reverse es }) at
 
 pub sum_stays : (n : ℕ) (us vs : List Row) (i : ℕ) (s : Standing) → vs ≡ with_standing us i s → n ≡ total_enrolled us → n ≡ total_enrolled vs
 sum_stays n us vs i s e sum = sum ∙ sym (total_stays us i s) ∙ sym (ap (λ (xs : List Row). total_enrolled xs) e)
 
 -- step back
 
-pub latest_unit : (us : List Row) (es fs : List Entry) (e : Entry) → lawful (held us fs) ≡ true → fs ≡ es ++ (e ∷ []) → entry_unit e < length us
+pub latest_unit : (us : List Row) (es fs : List Entry) (e : Entry) → lawful (held us fs) ≡ true → fs ≡ es ++ (e ∷ []) → e.unit < length us
 latest_unit us es fs e h popped =
     let was : lawful (record { units = us; entries = e ∷ reverse es }) ≡ true
     = ap (λ (ys : List Entry). lawful (record { units = us; entries = ys })) (sym (latest_first es fs e popped)) ∙ h in
     (entry_stood_lawfully us e (latest_lawful us e (reverse es) (lawful_keeps _ was).entries).0).0
 
-pub back_row : (us : List Row) (e : Entry) (i : ℕ) (s : Standing) (r w : Row) → i ≡ entry_unit e → s ≡ entry_former e → entry_unit e < length us → r ≡ get_or us i r → w ≡ stood r s → set us i w ≡ with_standing us (entry_unit e) (entry_former e)
+pub back_row : (us : List Row) (e : Entry) (i : ℕ) (s : Standing) (r w : Row) → i ≡ e.unit → s ≡ e.former → e.unit < length us → r ≡ get_or us i r → w ≡ stood r s → set us i w ≡ with_standing us e.unit e.former
 back_row us e i s r w unit former lt read h =
     let inside : i < length us = omega arith in
     rewritten us us i r w s refl inside read h
     ∙ ap (λ (k : ℕ). with_standing us k s) unit
-    ∙ ap (λ (t : Standing). with_standing us (entry_unit e) t) former
+    ∙ ap (λ (t : Standing). with_standing us e.unit t) former
 
-pub back_kept : (us vs : List Row) (es fs : List Entry) (e : Entry) → lawful (held us fs) ≡ true → fs ≡ es ++ (e ∷ []) → vs ≡ with_standing us (entry_unit e) (entry_former e) → lawful (held vs es) ≡ true
+pub back_kept : (us vs : List Row) (es fs : List Entry) (e : Entry) → lawful (held us fs) ≡ true → fs ≡ es ++ (e ∷ []) → vs ≡ with_standing us e.unit e.former → lawful (held vs es) ≡ true
 back_kept us vs es fs e h popped row =
     let was : lawful (record { units = us; entries = e ∷ reverse es }) ≡ true
     = ap (λ (ys : List Entry). lawful (record { units = us; entries = ys })) (sym (latest_first es fs e popped)) ∙ h in
     ap (λ (xs : List Row). lawful (held xs es)) row ∙ lawful_undone us e (reverse es) was
 
-pub back_written : (us vs : List Row) (es fs : List Entry) (e : Entry) → fs ≡ es ++ (e ∷ []) → vs ≡ with_standing us (entry_unit e) (entry_former e) → held vs es ≡ stepped_back (held us fs)
+pub back_written : (us vs : List Row) (es fs : List Entry) (e : Entry) → fs ≡ es ++ (e ∷ []) → vs ≡ with_standing us e.unit e.former → held vs es ≡ stepped_back (held us fs)
 back_written us vs es fs e popped row =
     ap (λ (xs : List Row). held xs es) row
-    ∙ sym (ap (λ (ys : List Entry). undone us ys) (latest_first es fs e popped) ∙ undone_is us e (reverse es))
+    ∙ sym (ap (λ (ys : List Entry). undone us ys) (latest_first es fs e popped))
 
 -- enrol
 

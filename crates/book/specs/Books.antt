@@ -5,7 +5,6 @@ use Rattle.book.specs.declared.class.Class.TheVariants.{Existing, Refurbishing, 
 use Rattle.book.specs.declared.class.Side.{Side}
 use Rattle.book.specs.declared.class.Side.TheVariants.{Taker, Maker}
 use Rattle.book.specs.declared.entry.Entry.{Entry}
-use Rattle.book.specs.declared.entry.Entry.TheVariants.{Exit, Years}
 use Rattle.book.specs.declared.terms.Application.{Application}
 use Rattle.book.specs.declared.unit.Standing.{Standing}
 use Rattle.book.specs.declared.unit.Unit.{Unit as Row}
@@ -76,27 +75,25 @@ for_years s years = record { years = years; inside = s.inside; exit = s.exit }
 abbrev pub with_unit : Books → Row → Books
 with_unit b u = record { units = b.units ++ (u ∷ []); entries = b.entries }
 
--- the unit i stands so now, and the entry is the latest
-abbrev pub with_entry : Books → ℕ → Standing → Entry → Books
-with_entry b i s e = record { units = slice_set b.units i (stood (unit_at b i) s); entries = e ∷ b.entries }
+-- the unit i stands so now, and the latest entry holds how it stood before
+abbrev pub with_entry : Books → ℕ → Standing → Books
+with_entry b i s =
+    record {
+      units = slice_set b.units i (stood (unit_at b i) s);
+      entries = record { unit = i; former = (unit_at b i).standing } ∷ b.entries;
+    }
 
 abbrev pub with_exit : Books → ℕ → ℕ → Books
-with_exit b i price =
-    with_entry b i (out_at (unit_at b i).standing price) (Exit i (unit_at b i).standing)
+with_exit b i price = with_entry b i (out_at (unit_at b i).standing price)
 
 abbrev pub with_years : Books → ℕ → ℕ → Books
-with_years b i years =
-    with_entry b i (for_years (unit_at b i).standing years) (Years i (unit_at b i).standing)
+with_years b i years = with_entry b i (for_years (unit_at b i).standing years)
 
--- the unit i stands again as it did, and the entries are those before
-abbrev pub restored : List Row → ℕ → Standing → List Entry → Books
-restored us i former es = record { units = slice_set us i (stood (slice_index_or us i no_unit) former); entries = es }
-
--- the latest entry undone
+-- the latest entry undone: its unit stands again as it did, and the entries are those before
 abbrev pub undone : List Row → List Entry → Books
 undone us [] = record { units = us; entries = [] }
-undone us (Exit i former ∷ es) = restored us i former es
-undone us (Years i former ∷ es) = restored us i former es
+undone us (e ∷ es) =
+    record { units = slice_set us e.unit (stood (slice_index_or us e.unit no_unit) e.former); entries = es }
 
 abbrev pub stepped_back : Books → Books
 stepped_back b = undone b.units b.entries

@@ -1,7 +1,6 @@
 -- The rule that a book keeps. Assumes nothing.
 use Rattle.std.specs.Prelude.{ℕ, Bool, true, not, ◌&&◌, List, [], ◌∷◌, length, Some, None, nat_le, nat_lt, slice_index_or}
 use Rattle.book.specs.declared.entry.Entry.{Entry}
-use Rattle.book.specs.declared.entry.Entry.TheVariants.{Exit, Years}
 use Rattle.book.specs.declared.unit.Standing.{Standing}
 use Rattle.book.specs.declared.unit.Unit.{Unit as Row}
 use Rattle.book.specs.Asked.{named}
@@ -34,8 +33,7 @@ abbrev pub stood_lawfully : List Row → ℕ → Standing → Bool
 stood_lawfully us i former = nat_lt i (length us) && lawful_standing (slice_index_or us i no_unit).enrolled.years former
 
 unfoldable pub lawful_entry : List Row → Entry → Bool
-lawful_entry us (Exit i former) = stood_lawfully us i former
-lawful_entry us (Years i former) = stood_lawfully us i former
+lawful_entry us e = stood_lawfully us e.unit e.former
 
 unfoldable pub lawful_entries : List Row → List Entry → Bool
 lawful_entries us [] = true

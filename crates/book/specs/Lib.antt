@@ -3,6 +3,6 @@ pub mod Books
 pub mod Asked
 pub mod Sides
 pub mod Exits
-pub mod Entries
+pub mod Numbers
 pub mod Lawful
 pub mod Views

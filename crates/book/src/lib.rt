@@ -12,7 +12,7 @@ mod terms;
 mod unit;
 
 pub use book::Book;
-pub use class::{Class, Side};
+pub use class::{Class, Side, UnknownNumber};
 pub use entry::Entry;
 pub use refusal::BookRefusal;
 pub use room::{MOST_ENTRIES, MOST_UNITS, Room};

@@ -18,12 +18,12 @@ pub enum BookRefusal {
     NoEntry,
 }
 
-impl BookRefusal {
-    // The number under which docs/questions.md lists the question.
-    pub fn number(self) -> u32
-        ensures { result ≡ book_question self }
-    {
-        match self {
+// The number under which docs/questions.md lists the question.
+impl From<BookRefusal> for u32 {
+    ghost from_gives = { λ refusal number. number ≡ book_question refusal };
+
+    fn from(refusal: BookRefusal) -> u32 {
+        match refusal {
             BookRefusal::Full => 10,
             BookRefusal::Capacity => 11,
             BookRefusal::Total => 12,

@@ -12,7 +12,7 @@ pub struct Terms {
     pub threshold: u32,
 }
 
-// What is given to enrol a unit; the class comes as a number.
+// What is given to enrol a unit; the class comes as a number, since question 13 is whether there is such a class.
 #[derive(Clone, Copy, PartialEq, Eq, Debug)]
 pub struct Application {
     pub capacity: u32,
@@ -28,9 +28,7 @@ impl Application {
     pub(crate) fn has_known_years(&self) -> bool
         ensures { result ≡ years_known self.now }
     {
-        let Some(class) = Class::from_number(self.class) else {
-            return false;
-        };
-        self.years >= 1 && self.years <= class.most_years()
+        Class::try_from(self.class).is_ok_and(|class| self.years >= 1
+            && self.years <= class.most_years())
     }
 }

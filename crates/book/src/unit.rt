@@ -37,6 +37,22 @@ impl Standing {
             exit: None,
         }
     }
+
+    pub(crate) fn out_at(self, price: u32) -> Standing
+        ensures { result ≡ out_at self price }
+    {
+        Standing {
+            inside: false,
+            exit: Some(price),
+            ..self
+        }
+    }
+
+    pub(crate) fn for_years(self, years: u32) -> Standing
+        ensures { result ≡ for_years self years }
+    {
+        Standing { years, ..self }
+    }
 }
 
 #[derive(Clone, Copy, PartialEq, Eq, Debug)]
@@ -50,7 +66,7 @@ impl Unit {
     pub(crate) fn new(application: &Application) -> Unit
         ensures { result ≡ new_unit application.now }
     {
-        let class = Class::from_number(application.class).unwrap_or(Class::Existing);
+        let class = Class::try_from(application.class).unwrap_or(Class::Existing);
         let name = application.name;
         Unit {
             enrolled: Enrolment {
@@ -63,19 +79,6 @@ impl Unit {
             },
             standing: Standing::new(application.years),
         }
-    }
-
-    pub(crate) fn go_out(&mut self, price: u32)
-        ensures { self.new ≡ stood self.old (out_at self.old.standing price) }
-    {
-        self.standing.inside = false;
-        self.standing.exit = Some(price);
-    }
-
-    pub(crate) fn serve(&mut self, years: u32)
-        ensures { self.new ≡ stood self.old (for_years self.old.standing years) }
-    {
-        self.standing.years = years;
     }
 
     // The unit stands again as it did before an entry.

@@ -1,7 +1,7 @@
-ghost use Rattle.std.specs.Prelude.{◌≡◌, true, length, None};
+ghost use Rattle.std.specs.Prelude.{◌≡◌, ◌<◌, true, length, None};
 ghost use Rattle.book.specs.Asked.{enrol_questions, years_questions};
-ghost use Rattle.book.specs.Books.{no_books, new_unit, with_unit, with_exit, with_years, stepped_back, closed_book};
-ghost use Rattle.book.specs.Lawful.{can_leave};
+ghost use Rattle.book.specs.Books.{no_books, new_unit, with_unit, with_entry, with_exit, with_years, stepped_back, closed_book};
+ghost use Rattle.book.specs.Lawful.{can_leave, stood_lawfully};
 ghost use Rattle.book.specs.Views.{books};
 ghost use Rattle.curve.specs.Questions.{first_no};
 
@@ -10,7 +10,7 @@ use crate::entry::Entry;
 use crate::room::Room;
 use crate::table::Table;
 use crate::terms::Application;
-use crate::unit::Unit;
+use crate::unit::{Standing, Unit};
 use std::mem;
 
 impl Book {
@@ -48,16 +48,8 @@ impl Book {
         requires { can_leave (books self.old) unit ≡ true }
         ensures { books self.new ≡ with_exit (books self.old) unit price }
     {
-        let empty = Table {
-            rows: Vec::new(self.heap),
-        };
-        let mut table = mem::replace(&mut self.table, empty);
-        let mut row = table.rows[unit];
-        let former = row.standing;
-        row.go_out(price);
-        table.rows[unit] = row;
-        self.table = table;
-        self.entries.push_reserved(Entry::Exit { unit, former });
+        let standing = self.unit(unit).standing.out_at(price);
+        self.enter(unit, standing);
     }
 
     // The unit serves fewer years.
@@ -65,16 +57,25 @@ impl Book {
         requires { first_no (years_questions (books self.old) unit years) ≡ None }
         ensures { books self.new ≡ with_years (books self.old) unit years }
     {
+        let standing = self.unit(unit).standing.for_years(years);
+        self.enter(unit, standing);
+    }
+
+    // An entry: the unit stands so now.
+    fn enter(&mut self, unit: usize, standing: Standing)
+        requires lawful { stood_lawfully (books self.old).units unit standing ≡ true }
+        requires room { length (books self.old).entries < 1024 }
+        ensures { books self.new ≡ with_entry (books self.old) unit standing }
+    {
         let empty = Table {
             rows: Vec::new(self.heap),
         };
         let mut table = mem::replace(&mut self.table, empty);
-        let mut row = table.rows[unit];
-        let former = row.standing;
-        row.serve(years);
-        table.rows[unit] = row;
+        let row = table.rows[unit];
+        table.rows[unit] = Unit { standing, ..row };
         self.table = table;
-        self.entries.push_reserved(Entry::Years { unit, former });
+        let former = row.standing;
+        self.entries.push_reserved(Entry { unit, former });
     }
 
     // Undoes the latest entry that stands, if there is one.
@@ -84,7 +85,7 @@ impl Book {
         let Some(last) = self.entries.pop() else {
             return;
         };
-        self.table.row_mut(last.unit()).stand_again(last.former());
+        self.table.row_mut(last.unit).stand_again(last.former);
     }
 
     // The entries go on standing, out of step back's reach.
