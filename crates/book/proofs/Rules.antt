@@ -1,6 +1,6 @@
 -- Laws of the rule of a book: what it says of one unit, and that every operation keeps it. Assumes nothing.
-use Rattle.std.proofs.Common.{◌≡◌, ℕ, zero, suc, ◌+◌, ◌<◌, ◌≤◌, Bool, true, false, cond, not, ◌&&◌, ◌||◌, ltb, leb, List, [], ◌∷◌, ◌++◌, length, get_or, Some, None, Option, sym, refl, ap, ◌∙◌, arith}
-use Rattle.std.proofs.lemmas.List.{length-set, length_push, get_or_append_left}
+use Rattle.std.proofs.Common.{◌≡◌, ℕ, zero, suc, ◌+◌, ◌<◌, ◌≤◌, Bool, true, false, cond, not, ◌&&◌, ◌||◌, ltb, leb, List, [], ◌∷◌, ◌++◌, reverse, length, get_or, Some, None, Option, sym, refl, ap, ◌∙◌, arith}
+use Rattle.std.proofs.lemmas.List.{length-set, length_push, get_or_append_left, reverse-append}
 use Rattle.std.proofs.lemmas.Bool.{and_parts, and_from, ltb-true, leb-true, lt-ltb, le-leb, not-true, or_from, or_parts, not_from_false}
 use Rattle.std.proofs.lemmas.Bool.Decides.{nat_tests}
 use Rattle.book.specs.declared.class.Class.{Class}
@@ -201,6 +201,13 @@ latest_lawful us e es h = and_parts _ _ h
 entries_more : (us : List Row) (e : Entry) (es : List Entry) → lawful_entry us e ≡ true → lawful_entries us es ≡ true → lawful_entries us (e ∷ es) ≡ true
 unfolding lawful_entries
 entries_more us e es one rest = and_from _ _ one rest
+
+-- the latest entry, taken off the entries that stand, the oldest first, is of a unit that there is
+pub latest_unit : (us : List Row) (es fs : List Entry) (e : Entry) → lawful (record { units = us; entries = reverse fs }) ≡ true → fs ≡ es ++ (e ∷ []) → e.unit < length us
+latest_unit us es fs e h popped =
+    let was : lawful (record { units = us; entries = e ∷ reverse es }) ≡ true
+    = ap (λ (ys : List Entry). lawful (record { units = us; entries = ys })) (sym (ap reverse popped ∙ reverse-append es (e ∷ []))) ∙ h in
+    (entry_stood_lawfully us e (latest_lawful us e (reverse es) (lawful_keeps _ was).entries).0).0
 
 -- the answers of the questions, one by one
 
@@ -439,6 +446,9 @@ new_capacity a = cases (class_of a.class)
     cases : (o : Option Class) → (made a o).enrolled.capacity ≡ a.capacity
     cases None = refl
     cases (Some c) = refl
+
+pub total_with_unit : (b : Books) (a : Application) → total_enrolled (with_unit b (new_unit a)).units ≡ total_enrolled b.units + a.capacity
+total_with_unit b a = let more = total_one_more b.units (new_unit a) in let capacity = new_capacity a in omega arith
 
 -- a unit that can leave takes its capacity off what is in
 pub capacity_less : (b : Books) (i price : ℕ) → lawful b ≡ true → can_leave b i ≡ true → capacity_inside (with_exit b i price).units + (unit_at b i).enrolled.capacity ≡ capacity_inside b.units
