@@ -1,5 +1,5 @@
-ghost use Rattle.std.specs.Prelude.{◌≡◌, ◌<◌, length, nat_lt};
-ghost use Rattle.book.specs.Asked.{book_question, enrol_questions, exit_questions, years_questions, back_questions, named};
+ghost use Rattle.std.specs.Prelude.{◌≡◌, ◌<◌, [], ◌∷◌, length, nat_lt, IfOk};
+ghost use Rattle.book.specs.Asked.{asked, book_question, enrol_questions, exit_questions, years_questions, back_questions, named};
 ghost use Rattle.book.specs.Books.{unit_at, capacity_inside, years_at};
 ghost use Rattle.book.specs.Exits.{exit_up_to};
 ghost use Rattle.book.specs.Views.{books};
@@ -33,12 +33,6 @@ impl Book {
         ensures { result ≡ length (books self.now).entries }
     {
         self.entries.len()
-    }
-
-    fn has_entry_room(&self) -> bool
-        ensures { result ≡ nat_lt (length (books self.now).entries) 1024 }
-    {
-        self.standing_entries() < MOST_ENTRIES
     }
 
     // The units by number.
@@ -106,8 +100,10 @@ impl Book {
         Ok(())
     }
 
-    pub fn exit_questions(&self, terms: Terms, unit: usize, price: u32) -> Result<(), BookRefusal>
-        ensures { refused book_question result ≡ first_no (exit_questions terms (books self.now) unit price) }
+    // The unit that an entry is to change: there is one with this number, and it is in.
+    fn unit_in(&self, unit: usize) -> Result<Unit, BookRefusal>
+        ensures asked { refused book_question result ≡ first_no (asked 15 (nat_lt unit (length (books self.now).units)) ∷ asked 16 (unit_at (books self.now) unit).standing.inside ∷ []) }
+        ensures row { IfOk result (λ row. row ≡ unit_at (books self.now) unit) }
     {
         if unit >= self.count() {
             return Err(BookRefusal::NoUnit);
@@ -116,35 +112,41 @@ impl Book {
         if !row.standing.inside {
             return Err(BookRefusal::Out);
         }
+        Ok(row)
+    }
+
+    // Whether one more entry of this round may stand.
+    fn entry_room(&self) -> Result<(), BookRefusal>
+        ensures { refused book_question result ≡ first_no (asked 20 (nat_lt (length (books self.now).entries) 1024) ∷ []) }
+    {
+        if self.standing_entries() < MOST_ENTRIES {
+            Ok(())
+        } else {
+            Err(BookRefusal::EntriesFull)
+        }
+    }
+
+    pub fn exit_questions(&self, terms: Terms, unit: usize, price: u32) -> Result<(), BookRefusal>
+        ensures { refused book_question result ≡ first_no (exit_questions terms (books self.now) unit price) }
+    {
+        let row = self.unit_in(unit)?;
         if price <= terms.floor || price > terms.cap {
             return Err(BookRefusal::Price);
         }
         if row.enrolled.side == Side::Taker && price > terms.threshold {
             return Err(BookRefusal::Threshold);
         }
-        if !self.has_entry_room() {
-            return Err(BookRefusal::EntriesFull);
-        }
-        Ok(())
+        self.entry_room()
     }
 
     pub fn years_questions(&self, unit: usize, years: u32) -> Result<(), BookRefusal>
         ensures { refused book_question result ≡ first_no (years_questions (books self.now) unit years) }
     {
-        if unit >= self.count() {
-            return Err(BookRefusal::NoUnit);
-        }
-        let row = self.unit(unit);
-        if !row.standing.inside {
-            return Err(BookRefusal::Out);
-        }
+        let row = self.unit_in(unit)?;
         if years < 1 || years >= row.standing.years {
             return Err(BookRefusal::Years);
         }
-        if !self.has_entry_room() {
-            return Err(BookRefusal::EntriesFull);
-        }
-        Ok(())
+        self.entry_room()
     }
 
     pub fn back_questions(&self) -> Result<(), BookRefusal>
