@@ -1,5 +1,5 @@
 -- What the reader hands out at a place, and where it stands then.
-use Rattle.std.proofs.Common.{◌≡◌, ℕ, ◌+◌, ◌<◌, ◌≤◌, Bool, true, false, cond, List, [], Some, None, Ok, Err, Option, Result, sym, refl, ap, ◌∙◌, subst, arith}
+use Rattle.std.proofs.Common.{◌≡◌, ℕ, ◌+◌, ◌<◌, ◌≤◌, Bool, true, false, cond, List, [], Some, None, Ok, Err, Option, Result, sym, refl, ap, ◌∙◌, subst, arith, rules, MatchResult, IsErrAnd}
 use Rattle.bidfile.specs.declared.fault.FileFault.{FileFault}
 use Rattle.bidfile.specs.declared.fault.FileQuestion.{FileQuestion}
 use Rattle.bidfile.specs.declared.records.Due.{Due}
@@ -9,6 +9,7 @@ use Rattle.bidfile.specs.Found.{found, found_at, handed, item_at, later}
 use Rattle.bidfile.specs.Items.{Item, item_of, size, may_end}
 use Rattle.bidfile.specs.Reading.{told, asked, read_out, Laid, Moved, Stands, Taken}
 use Rattle.bidfile.specs.Words.{words, kind_at}
+use Rattle.std.specs.Borrow.{Bor}
 use Rattle.bidfile.proofs.FoundPlaces.{found_more, found_none}
 use Rattle.bidfile.proofs.Standing.{stands}
 use Rattle.bidfile.proofs.WordBytes.{Bytes}
@@ -20,6 +21,14 @@ pub handed_here : (due : Due) (bytes : List ℕ) (at : ℕ) (r : Result Item Fil
 handed_here due bytes at r lt e =
     ap (placed at) e
     ∙ (sym (handed_placed due (found_at bytes at) (found bytes (at + size (kind_at bytes at)))) ∙ ap (handed due) (sym (found_more bytes at lt)))
+
+-- what was answered, before its question was mapped to a fault
+module _ {A E F : Type 0} (r : Result A E) (s : Result A F) (P : E → F → Type 0) where
+  pub as_ok : (x : A) → MatchResult r (λ y. s ≡ Ok y) (λ e. IsErrAnd s (P e)) → s ≡ Ok x → r ≡ Ok x
+  as_ok x h e = search (rules, h, e)
+
+  pub as_err : (f : F) → MatchResult r (λ y. s ≡ Ok y) (λ e. IsErrAnd s (P e)) → s ≡ Err f → (e : E) × (r ≡ Err e) × P e f
+  as_err f h e = search (rules, h, e)
 
 -- at its end
 pub handed_end : (due : Due) (bytes : List ℕ) (at : ℕ) → words bytes ≤ at → handed due [] ≡ handed due (found bytes at)
@@ -44,7 +53,7 @@ moves bytes at end p lt t e =
 pub lies : (bytes : List ℕ) (at : ℕ) (p : Placed) → Taken bytes at p → Laid bytes (Ok (Some p))
 lies bytes at p t = subst (λ (place : ℕ). Stands bytes place (item_of p.«record»)) (sym t.place) t.laid
 
-pub taken : (due : Due) (bytes : List ℕ) (at : ℕ) (r : Record) → Bytes bytes → at + size (kind_at bytes at) ≤ words bytes
+pub taken : (due : Due) (bytes : List ℕ) (at : ℕ) (r : Record (Bor (List ℕ))) → Bytes bytes → at + size (kind_at bytes at) ≤ words bytes
     → Ok (item_of r) ≡ read_out (asked due (found_at bytes at)) (item_at bytes at)
     → Taken bytes at (record { place = at; «record» = r })
 taken due bytes at r small room is =

@@ -3,7 +3,6 @@ use Rattle.std.proofs.Common.{◌≡◌, ℕ, suc, ◌+◌, ◌*◌, ◌/◌, �
 use Rattle.std.proofs.lemmas.List.{append_assoc, drop_at, drop-drop, get_or-drop, length-append, length-drop, take_at}
 use Rattle.std.proofs.lemmas.Bool.{and_from, le-leb, eq-eqb}
 use Rattle.std.specs.List.{flat_map, AllByRecursion}
-use Rattle.bidfile.specs.declared.records.CornerRecord.{CornerRecord}
 use Rattle.bidfile.specs.declared.records.CurveChoice.{CurveChoice}
 use Rattle.bidfile.specs.declared.records.CurveChoice.TheVariants.{Straight, Stepped}
 use Rattle.bidfile.specs.declared.records.OrderChoice.{OrderChoice}
@@ -11,8 +10,11 @@ use Rattle.bidfile.specs.declared.records.OrderChoice.TheVariants.{ByRule, ByNam
 use Rattle.bidfile.specs.declared.records.ExitRecord.{ExitRecord}
 use Rattle.bidfile.specs.declared.records.TermsRecord.{TermsRecord}
 use Rattle.bidfile.specs.declared.records.YearsRecord.{YearsRecord}
+use Rattle.bidfile.specs.declared.records.SideChoice.{SideChoice}
+use Rattle.bidfile.specs.declared.records.SideChoice.TheVariants.{Taker, Maker}
+use Rattle.curve.specs.declared.corner.Corner.{Corner}
 use Rattle.bidfile.specs.Found.{Found, found, found_at, item_at, operands, plain_words, whole_at, terms_at, corner_at, unit_at, exit_at, years_at, bare_at, name_at}
-use Rattle.bidfile.specs.Items.{Item, UnitItem, terms, corner, unit, exit, years, step_back, close, item_kind, size, selected, curve_number, order_number, maker_number}
+use Rattle.bidfile.specs.Items.{Item, UnitItem, terms, corner, unit, exit, years, step_back, close, item_kind, size, selected, curve_number, order_number, side_number}
 use Rattle.bidfile.specs.Layout.{Fits, ReadsBack, head, in_places, layout, tail_of, word_bytes, words_of}
 use Rattle.bidfile.specs.Words.{words, word_at, kind_at, value_at}
 use Rattle.bidfile.proofs.FoundPlaces.{found_more, found_none, size_some}
@@ -179,15 +181,15 @@ terms_again x y z Stepped ByName = refl
 
 abbrev unit_by : ℕ → ℕ → ℕ → ℕ → ℕ → List ℕ → Option Item
 unit_by x y a z w name =
-    elim (selected false true a) [ None ↦ None | Some maker ↦ Some (unit (record { capacity = x; class = y; maker = maker; years = z; random = w; bytes = name })) ]
+    elim (selected Taker Maker a) [ None ↦ None | Some side ↦ Some (unit (record { capacity = x; class = y; side = side; years = z; random = w; bytes = name })) ]
 
 abbrev unit_of : ℕ → List ℕ → List ℕ → Option Item
 unit_of x ws name = unit_by x (get_or ws 0 0) (get_or ws 1 0) (get_or ws 2 0) (get_or ws 3 0) name
 
-unit_again : (x y : ℕ) (m : Bool) (z w : ℕ) (name : List ℕ)
-    → unit_by x y (maker_number m) z w name ≡ Some (unit (record { capacity = x; class = y; maker = m; years = z; random = w; bytes = name }))
-unit_again x y true z w name = refl
-unit_again x y false z w name = refl
+unit_again : (x y : ℕ) (m : SideChoice) (z w : ℕ) (name : List ℕ)
+    → unit_by x y (side_number m) z w name ≡ Some (unit (record { capacity = x; class = y; side = m; years = z; random = w; bytes = name }))
+unit_again x y Taker z w name = refl
+unit_again x y Maker z w name = refl
 
 abbrev corner_of : ℕ → List ℕ → Option Item
 corner_of x ws = Some (corner (record { quantity = x; price = get_or ws 0 0 }))
@@ -206,9 +208,9 @@ order_small : (o : OrderChoice) → order_number o < 268435456
 order_small ByRule = omega arith
 order_small ByName = omega arith
 
-maker_small : (m : Bool) → maker_number m < 268435456
-maker_small true = omega arith
-maker_small false = omega arith
+side_small : (m : SideChoice) → side_number m < 268435456
+side_small Taker = omega arith
+side_small Maker = omega arith
 
 -- a record that is written at a place is found there, and the next one begins where it ends
 record FoundAgain (bytes : List ℕ) (at : ℕ) (i : Item) (more : List ℕ) : Type 0 where
@@ -243,7 +245,7 @@ module _ (bytes : List ℕ) (at : ℕ) (more : List ℕ) where
       let f = four_values bytes at in
       item_by bytes at 1 k ∙ (ap (terms_of (value_at bytes at)) (sym f ∙ vs) ∙ (ap (λ (x : ℕ). terms_of x (t.spread ∷ (t.threshold ∷ (curve_number t.curve ∷ (order_number t.order ∷ []))))) v ∙ terms_again t.«cap» t.spread t.threshold t.curve t.order)))
 
-  corner_found : (c : CornerRecord) → Fits (corner c) → drop (4 * at) bytes ≡ layout (corner c) ++ more → FoundAgain bytes at (corner c) more
+  corner_found : (c : Corner) → Fits (corner c) → drop (4 * at) bytes ≡ layout (corner c) ++ more → FoundAgain bytes at (corner c) more
   corner_found c fits h =
       let all = fits.values in
       again (corner c) c.quantity (c.price ∷ [])
@@ -268,9 +270,9 @@ module _ (bytes : List ℕ) (at : ℕ) (more : List ℕ) where
   unit_found u fits h =
       let all = fits.values in
       let eight : length u.bytes ≡ 8 = fits.named.0 in
-      let ms = maker_small u.maker in
+      let ms = side_small u.side in
       let wide : length (layout (unit u)) ≡ 4 * 7 = omega arith in
-      again (unit u) u.capacity (u.class ∷ (maker_number u.maker ∷ (u.years ∷ (u.random ∷ []))))
+      again (unit u) u.capacity (u.class ∷ (side_number u.side ∷ (u.years ∷ (u.random ∷ []))))
       (record { words_are = refl; value = all.0; few = omega arith; small = (all.1.0, (ms, (all.1.1.0, (all.1.1.1.0, tt)))); count = refl; long = wide })
       h
       (λ k v vs past.
@@ -279,9 +281,9 @@ module _ (bytes : List ℕ) (at : ℕ) (more : List ℕ) where
       let name : name_at bytes (at + 5) ≡ u.bytes = ap (λ (n : ℕ). take 8 (drop (4 * n) bytes)) (sym five) ∙ (ap (take 8) past ∙ take_at u.bytes more 8 eight) in
       item_by bytes at 3 k
       ∙ (ap (λ (ws : List ℕ). unit_of (value_at bytes at) ws (name_at bytes (at + 5))) (sym f ∙ vs)
-      ∙ (ap (λ (x : ℕ). unit_of x (u.class ∷ (maker_number u.maker ∷ (u.years ∷ (u.random ∷ [])))) (name_at bytes (at + 5))) v
-      ∙ (ap (unit_of u.capacity (u.class ∷ (maker_number u.maker ∷ (u.years ∷ (u.random ∷ []))))) name
-      ∙ unit_again u.capacity u.class u.maker u.years u.random u.bytes))))
+      ∙ (ap (λ (x : ℕ). unit_of x (u.class ∷ (side_number u.side ∷ (u.years ∷ (u.random ∷ [])))) (name_at bytes (at + 5))) v
+      ∙ (ap (unit_of u.capacity (u.class ∷ (side_number u.side ∷ (u.years ∷ (u.random ∷ []))))) name
+      ∙ unit_again u.capacity u.class u.side u.years u.random u.bytes))))
 
   step_found : drop (4 * at) bytes ≡ layout step_back ++ more → FoundAgain bytes at step_back more
   step_found h =

@@ -7,8 +7,10 @@ use Rattle.bidfile.specs.declared.records.CurveChoice.{CurveChoice}
 use Rattle.bidfile.specs.declared.records.CurveChoice.TheVariants.{Straight, Stepped}
 use Rattle.bidfile.specs.declared.records.OrderChoice.{OrderChoice}
 use Rattle.bidfile.specs.declared.records.OrderChoice.TheVariants.{ByRule, ByName}
+use Rattle.bidfile.specs.declared.records.SideChoice.{SideChoice}
+use Rattle.bidfile.specs.declared.records.SideChoice.TheVariants.{Taker, Maker}
 use Rattle.bidfile.specs.Found.{found_at, item_at, known_kind, name_at, operands, plain_words, terms_at, corner_at, unit_at, exit_at, years_at, bare_at}
-use Rattle.bidfile.specs.Items.{Item, terms, corner, unit, exit, years, step_back, close, item_kind, size, selected, curve_number, order_number, maker_number}
+use Rattle.bidfile.specs.Items.{Item, terms, corner, unit, exit, years, step_back, close, item_kind, size, selected, curve_number, order_number, side_number}
 use Rattle.bidfile.specs.Layout.{head, tail_of, word_bytes, words_of}
 use Rattle.bidfile.specs.Reading.{Stands}
 use Rattle.bidfile.specs.Words.{words, kind_at, value_at}
@@ -37,8 +39,8 @@ curve_back n c h = grind (arith, nat_tests)
 order_back : (n : ℕ) (o : OrderChoice) → selected ByRule ByName n ≡ Some o → order_number o ≡ n
 order_back n o h = grind (arith, nat_tests)
 
-maker_back : (n : ℕ) (b : Bool) → selected false true n ≡ Some b → maker_number b ≡ n
-maker_back n b h = grind (arith, nat_tests)
+side_back : (n : ℕ) (b : SideChoice) → selected Taker Maker n ≡ Some b → side_number b ≡ n
+side_back n b h = grind (arith, nat_tests)
 
 -- a record of each kind, over plain numbers
 terms_words : (o : Option CurveChoice) (p : Option OrderChoice) (x y z a b : ℕ) (i : Item)
@@ -54,12 +56,12 @@ terms_words (Some c) (Some d) x y z a b i f g h =
     let db = g d refl in
     subst P e ((cc), refl)
 
-unit_words : (o : Option Bool) (x y a z w : ℕ) (name : List ℕ) (i : Item) → ((b : Bool) → o ≡ Some b → maker_number b ≡ a)
-    → elim o [ None ↦ None | Some maker ↦ Some (unit (record { capacity = x; class = y; maker = maker; years = z; random = w; bytes = name })) ] ≡ Some i
+unit_words : (o : Option SideChoice) (x y a z w : ℕ) (name : List ℕ) (i : Item) → ((b : SideChoice) → o ≡ Some b → side_number b ≡ a)
+    → elim o [ None ↦ None | Some side ↦ Some (unit (record { capacity = x; class = y; side = side; years = z; random = w; bytes = name })) ] ≡ Some i
     → (words_of i ≡ head 3 x ∷ (y ∷ (a ∷ (z ∷ (w ∷ []))))) × (tail_of i ≡ name)
 unit_words None x y a z w name i f h = let never : ◌≡◌ {A = ℕ} 0 1 = cc in absurd (omega arith)
 unit_words (Some b) x y a z w name i f h =
-    let e : unit (record { capacity = x; class = y; maker = b; years = z; random = w; bytes = name }) ≡ i = cc in
+    let e : unit (record { capacity = x; class = y; side = b; years = z; random = w; bytes = name }) ≡ i = cc in
     let P : Item → Type 0 = λ j. (words_of j ≡ head 3 x ∷ (y ∷ (a ∷ (z ∷ (w ∷ []))))) × (tail_of j ≡ name) in
     let ba = f b refl in
     subst P e ((cc), refl)
@@ -89,7 +91,7 @@ module _ (bytes : List ℕ) (at : ℕ) (i : Item) where
 
   unit_made : kind_at bytes at ≡ 3 → unit_at bytes at ≡ Some i → Made bytes at 4 8 i
   unit_made k h =
-      let w = unit_words (selected false true (value_at bytes (at + 2))) (value_at bytes at) (value_at bytes (at + 1)) (value_at bytes (at + 2)) (value_at bytes (at + 3)) (value_at bytes (at + 4)) (name_at bytes (at + 5)) i (maker_back (value_at bytes (at + 2))) h in
+      let w = unit_words (selected Taker Maker (value_at bytes (at + 2))) (value_at bytes at) (value_at bytes (at + 1)) (value_at bytes (at + 2)) (value_at bytes (at + 3)) (value_at bytes (at + 4)) (name_at bytes (at + 5)) i (side_back (value_at bytes (at + 2))) h in
       let f = four_values bytes at in
       record { words_are = cc w.0; tail_is = w.1 }
 

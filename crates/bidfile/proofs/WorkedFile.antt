@@ -2,6 +2,7 @@
 use Rattle.std.proofs.Common.{◌≡◌, true, [], ◌∷◌, Some, refl}
 use Rattle.bidfile.specs.declared.records.CurveChoice.TheVariants.{Straight}
 use Rattle.bidfile.specs.declared.records.OrderChoice.TheVariants.{ByRule}
+use Rattle.bidfile.specs.declared.records.SideChoice.TheVariants.{Maker}
 use Rattle.bidfile.specs.Found.{found}
 use Rattle.bidfile.specs.Items.{terms, unit, close}
 
@@ -12,6 +13,6 @@ worked_terms = refl
 
 -- unit 0 and a close
 worked_unit : found (48 ∷ (0 ∷ (35 ∷ (40 ∷ (0 ∷ (0 ∷ (0 ∷ (0 ∷ (0 ∷ (0 ∷ (0 ∷ (1 ∷ (0 ∷ (0 ∷ (0 ∷ (1 ∷ (0 ∷ (0 ∷ (0 ∷ (4 ∷ (72 ∷ (79 ∷ (76 ∷ (84 ∷ (45 ∷ (49 ∷ (32 ∷ (32 ∷ (112 ∷ (0 ∷ (0 ∷ (0 ∷ [])))))))))))))))))))))))))))))))) 0
-    ≡ record { place = 0; kind = 3; whole = true; item = Some (unit (record { capacity = 9000; class = 0; maker = true; years = 1; random = 4; bytes = 72 ∷ (79 ∷ (76 ∷ (84 ∷ (45 ∷ (49 ∷ (32 ∷ (32 ∷ []))))))) })) } ∷ (record { place = 7; kind = 7; whole = true; item = Some close } ∷ [])
+    ≡ record { place = 0; kind = 3; whole = true; item = Some (unit (record { capacity = 9000; class = 0; side = Maker; years = 1; random = 4; bytes = 72 ∷ (79 ∷ (76 ∷ (84 ∷ (45 ∷ (49 ∷ (32 ∷ (32 ∷ []))))))) })) } ∷ (record { place = 7; kind = 7; whole = true; item = Some close } ∷ [])
 unfolding found
 worked_unit = refl

@@ -1,11 +1,13 @@
 -- What is found in a bid file, place by place, and the questions put to it. Assumes nothing.
-use Rattle.std.specs.Prelude.{ℕ, zero, suc, ◌+◌, ◌-◌, ◌*◌, ◌%◌, Bool, true, false, cond, ◌&&◌, List, [], ◌∷◌, length, take, drop, Some, None, Ok, Err, Option, Result, ◌==◌, nat_le, nat_lt}
+use Rattle.std.specs.Prelude.{◌≡◌, ℕ, zero, suc, ◌+◌, ◌-◌, ◌*◌, ◌%◌, Bool, true, false, cond, ◌&&◌, List, [], ◌∷◌, length, take, drop, Some, None, Ok, Err, Option, Result, MatchResult, ◌==◌, nat_le, nat_lt}
 use Rattle.bidfile.specs.declared.fault.FileQuestion.{FileQuestion}
 use Rattle.bidfile.specs.declared.fault.FileQuestion.TheVariants.{Length, Kind, Words, Turn, Fields}
+use Rattle.bidfile.specs.declared.kind.Kind.{Kind as RecordKind}
 use Rattle.bidfile.specs.declared.records.CurveChoice.TheVariants.{Straight, Stepped}
 use Rattle.bidfile.specs.declared.records.Due.{Due}
 use Rattle.bidfile.specs.declared.records.OrderChoice.TheVariants.{ByRule, ByName}
-use Rattle.bidfile.specs.Items.{Item, terms, corner, unit, exit, years, step_back, close, size, selected, in_turn, may_end}
+use Rattle.bidfile.specs.declared.records.SideChoice.TheVariants.{Taker, Maker}
+use Rattle.bidfile.specs.Items.{Item, terms, corner, unit, exit, years, step_back, close, size, kind_number, selected, in_turn, may_end}
 use Rattle.bidfile.specs.Words.{words, kind_at, value_at}
 use Rattle.curve.specs.Questions.{Question, first_no}
 
@@ -23,6 +25,10 @@ length_questions bytes = record { number = 23; yes = length bytes % 4 == 0 && na
 
 abbrev pub known_kind : ℕ → Bool
 known_kind kind = nat_le 1 kind && nat_le kind 7
+
+-- the kind that a number says, or question 24
+abbrev pub KindOf : ℕ → Result RecordKind FileQuestion → Type 0
+KindOf n r = MatchResult r (λ kind. kind_number kind ≡ n) (λ question. (question ≡ Kind) × (known_kind n ≡ false))
 
 -- n words from a place on have kind 0
 abbrev pub plain_words : ℕ → List ℕ → ℕ → Bool
@@ -52,7 +58,7 @@ name_at bytes at = take 8 (drop (4 * at) bytes)
 
 abbrev pub unit_at : List ℕ → ℕ → Option Item
 unit_at bytes at =
-    elim (selected false true (value_at bytes (at + 2))) [ None ↦ None | Some maker ↦ Some (unit (record { capacity = value_at bytes at; class = value_at bytes (at + 1); maker = maker; years = value_at bytes (at + 3); random = value_at bytes (at + 4); bytes = name_at bytes (at + 5) })) ]
+    elim (selected Taker Maker (value_at bytes (at + 2))) [ None ↦ None | Some side ↦ Some (unit (record { capacity = value_at bytes at; class = value_at bytes (at + 1); side = side; years = value_at bytes (at + 3); random = value_at bytes (at + 4); bytes = name_at bytes (at + 5) })) ]
 
 abbrev pub exit_at : List ℕ → ℕ → Option Item
 exit_at bytes at = Some (exit (record { unit = value_at bytes at; price = value_at bytes (at + 1) }))

@@ -2,7 +2,7 @@
 use Rattle.std.specs.Prelude.{◌≡◌, ℕ, ◌+◌, ◌*◌, ◌/◌, ◌%◌, ◌<◌, true, List, [], ◌∷◌, ◌++◌, length, Some}
 use Rattle.std.specs.List.{flat_map, AllByRecursion}
 use Rattle.bidfile.specs.Found.{Found, found}
-use Rattle.bidfile.specs.Items.{Item, terms, corner, unit, exit, years, step_back, close, item_kind, size, curve_number, order_number, maker_number}
+use Rattle.bidfile.specs.Items.{Item, terms, corner, unit, exit, years, step_back, close, item_kind, size, curve_number, order_number, side_number}
 
 -- the four bytes of a word, the highest first
 abbrev pub word_bytes : ℕ → List ℕ
@@ -17,7 +17,7 @@ abbrev pub words_of : Item → List ℕ
 words_of (terms t) =
     head 1 t.«cap» ∷ (t.spread ∷ (t.threshold ∷ (curve_number t.curve ∷ (order_number t.order ∷ []))))
 words_of (corner c) = head 2 c.quantity ∷ (c.price ∷ [])
-words_of (unit u) = head 3 u.capacity ∷ (u.class ∷ (maker_number u.maker ∷ (u.years ∷ (u.random ∷ []))))
+words_of (unit u) = head 3 u.capacity ∷ (u.class ∷ (side_number u.side ∷ (u.years ∷ (u.random ∷ []))))
 words_of (exit e) = head 4 e.unit ∷ (e.price ∷ [])
 words_of (years y) = head 5 y.unit ∷ (y.years ∷ [])
 words_of step_back = head 6 0 ∷ []

@@ -10,6 +10,7 @@ use Rattle.bidfile.specs.Found.{Found, file_question, found, known_kind, later}
 use Rattle.bidfile.specs.Items.{Item, item_of, item_kind, size, in_turn}
 use Rattle.bidfile.specs.Layout.{layout}
 use Rattle.bidfile.specs.Words.{words, kind_at}
+use Rattle.std.specs.Borrow.{Bor}
 
 -- the number of a fault's question
 abbrev pub fault_number : FileFault → ℕ
@@ -18,11 +19,6 @@ fault_number f = file_question f.question
 -- what a fault says: the number of its question, and its place
 abbrev pub fault_of : FileFault → ℕ × ℕ
 fault_of f = (fault_number f, f.place)
-
--- a record, if there is one, by what it says
-abbrev pub said : Option Record → Option Item
-said None = None
-said (Some r) = Some (item_of r)
 
 -- what the reader answers, by what it says
 abbrev pub told : Result (Option Placed) FileFault → Result (Option (ℕ × Item)) (ℕ × ℕ)
@@ -54,7 +50,7 @@ read_out (Ok u) None = Err Fields
 read_out (Ok u) (Some item) = Ok item
 
 -- a record or a question, by what they say
-abbrev pub told_record : Result Record FileQuestion → Result Item FileQuestion
+abbrev pub told_record : Result (Record (Bor (List ℕ))) FileQuestion → Result Item FileQuestion
 told_record (Ok r) = Ok (item_of r)
 told_record (Err q) = Err q
 

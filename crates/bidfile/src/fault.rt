@@ -1,8 +1,5 @@
-ghost use Rattle.std.specs.Prelude.{◌≡◌};
-ghost use Rattle.bidfile.specs.Found.{file_question};
-
 // The questions of a bid file that can be answered "no".
-#[derive(Clone, Copy)]
+#[derive(Clone, Copy, PartialEq, Eq, Debug)]
 pub enum FileQuestion {
     Length,
     Kind,
@@ -11,12 +8,22 @@ pub enum FileQuestion {
     Fields,
 }
 
-impl FileQuestion {
+// A question that was answered "no", with the place of the head word of its record, 0 for the whole file.
+#[derive(Clone, Copy, PartialEq, Eq, Debug)]
+pub struct FileFault {
+    pub question: FileQuestion,
+    pub place: usize,
+}
+
+impl From<FileQuestion> for u32 {
+    ghost use Rattle.std.specs.Prelude.{◌≡◌};
+    ghost use Rattle.bidfile.specs.Found.{file_question};
+
     // The number under which docs/questions.md lists the question.
-    pub fn number(self) -> u32
-        ensures { result ≡ file_question self }
-    {
-        match self {
+    ghost from_gives = { λ question number. number ≡ file_question question };
+
+    fn from(question: FileQuestion) -> u32 {
+        match question {
             FileQuestion::Length => 23,
             FileQuestion::Kind => 24,
             FileQuestion::Words => 25,
@@ -26,18 +33,14 @@ impl FileQuestion {
     }
 }
 
-// A question that was answered "no", with the place of the head word of its record, 0 for the whole file.
-#[derive(Clone, Copy)]
-pub struct FileFault {
-    pub question: FileQuestion,
-    pub place: usize,
-}
+impl From<FileFault> for u32 {
+    ghost use Rattle.std.specs.Prelude.{◌≡◌};
+    ghost use Rattle.bidfile.specs.Found.{file_question};
 
-impl FileFault {
     // The number of its question.
-    pub fn number(self) -> u32
-        ensures { result ≡ file_question self.question }
-    {
-        self.question.number()
+    ghost from_gives = { λ fault number. number ≡ file_question fault.question };
+
+    fn from(fault: FileFault) -> u32 {
+        u32::from(fault.question)
     }
 }

@@ -1,55 +1,52 @@
 // Bid files: their words, their records, and the reader that hands the records out.
 #![tactic(auto)]
 
+mod choices;
 mod fault;
-mod fields;
+mod head;
+mod kind;
 mod layout;
 mod reader;
 mod records;
 mod words;
 
 pub use fault::{FileFault, FileQuestion};
+pub use kind::Kind;
 pub use layout::layout_holds;
 pub use reader::Reader;
 pub use records::{
-    CornerRecord, CurveChoice, Due, ExitRecord, OrderChoice, Placed, Record, TermsRecord,
-    UnitRecord, YearsRecord,
+    CurveChoice, Due, ExitRecord, OrderChoice, Placed, Record, SideChoice, TermsRecord, UnitRecord,
+    YearsRecord,
 };
 
 #[cfg(test)]
 mod tests {
     use super::*;
 
-    // Head value and last operand; 6 and 7 for records that have none.
-    fn ends_of(record: &Record<'_>) -> (u32, u32) {
-        match *record {
-            Record::Terms(terms) => (terms.cap, terms.order.number()),
-            Record::Corner(corner) => (corner.quantity, corner.price),
-            Record::Unit(unit) => (unit.capacity, unit.random),
-            Record::Exit(exit) => (exit.unit, exit.price),
-            Record::Years(years) => (years.unit, years.years),
-            Record::StepBack => (0, 6),
-            Record::Close => (0, 7),
+    // Head value and last operand.
+    fn ends_of(record: &Record<&[u8]>) -> (u32, Option<u32>) {
+        match record {
+            Record::Terms(terms) => (terms.cap, Some(u32::from(terms.order))),
+            Record::Corner(corner) => (corner.quantity, Some(corner.price)),
+            Record::Unit(unit) => (unit.capacity, Some(unit.random)),
+            Record::Exit(exit) => (exit.unit, Some(exit.price)),
+            Record::Years(years) => (years.unit, Some(years.years)),
+            Record::StepBack | Record::Close => (0, None),
         }
     }
 
     fn is_next(reader: &mut Reader<'_>, step: &Step) -> bool {
-        match reader.next(step.due) {
-            Ok(Some(placed)) => {
-                let ends = ends_of(&placed.record);
-                placed.place == step.place && ends.0 == step.head && ends.1 == step.last
-            }
-            _ => false,
-        }
+        let Ok(Some(placed)) = reader.next(step.due) else {
+            return false;
+        };
+        placed.record.kind() == step.kind
+            && placed.place == step.place
+            && ends_of(&placed.record) == (step.head, step.last)
     }
 
-    // The number of the fault at the front of a file, 0 for a record or the end.
-    fn fault(file: &[u8], due: Due) -> u32 {
-        let mut reader = Reader::new(file);
-        match reader.next(due) {
-            Ok(_) => 0,
-            Err(fault) => fault.number(),
-        }
+    // The number of the fault at the front of a file.
+    fn fault(file: &[u8], due: Due) -> Option<u32> {
+        Reader::new(file).next(due).err().map(u32::from)
     }
 
     const FILE: [u8; 80] = [
@@ -62,18 +59,20 @@ mod tests {
         0x60, 0, 0, 0, 0x70, 0, 0, 0, // step back and close
     ];
 
-    // What comes next, by place, head value and last operand.
+    // What comes next, by kind, place, head value and last operand.
     #[derive(Clone, Copy)]
     struct Step {
         due: Due,
+        kind: Kind,
         place: usize,
         head: u32,
-        last: u32,
+        last: Option<u32>,
     }
 
-    fn expected(due: Due, place: usize, head: u32, last: u32) -> Step {
+    fn expected(due: Due, kind: Kind, place: usize, head: u32, last: Option<u32>) -> Step {
         Step {
             due,
+            kind,
             place,
             head,
             last,
@@ -83,13 +82,13 @@ mod tests {
     #[test]
     fn one_record_of_each_kind(rt: HostRuntime) {
         let steps = [
-            expected(Due::Terms, 0, 7_000, 1),
-            expected(Due::Corners, 5, 10_000, 7_000),
-            expected(Due::Corners, 7, 9_000, 4),
-            expected(Due::Units, 14, 4, 5_000),
-            expected(Due::Entries, 16, 2, 10),
-            expected(Due::Entries, 18, 0, 6),
-            expected(Due::Entries, 19, 0, 7),
+            expected(Due::Terms, Kind::Terms, 0, 7_000, Some(1)),
+            expected(Due::Corners, Kind::Corner, 5, 10_000, Some(7_000)),
+            expected(Due::Corners, Kind::Unit, 7, 9_000, Some(4)),
+            expected(Due::Units, Kind::Exit, 14, 4, Some(5_000)),
+            expected(Due::Entries, Kind::Years, 16, 2, Some(10)),
+            expected(Due::Entries, Kind::StepBack, 18, 0, None),
+            expected(Due::Entries, Kind::Close, 19, 0, None),
         ];
         let mut reader = Reader::new(&FILE);
         for step in &steps {
@@ -103,26 +102,26 @@ mod tests {
     struct Front {
         file: [u8; 8],
         due: Due,
-        fault: u32,
+        fault: Option<u32>,
     }
 
-    fn case(file: [u8; 8], due: Due, fault: u32) -> Front {
+    fn case(file: [u8; 8], due: Due, fault: Option<u32>) -> Front {
         Front { file, due, fault }
     }
 
     #[test]
     fn faults_at_the_front(rt: HostRuntime) {
         let fronts = [
-            case([0; 8], Due::Nothing, 24),
-            case([0x80, 0, 0, 0, 0, 0, 0, 0], Due::Entries, 24),
+            case([0; 8], Due::Nothing, Some(24)),
+            case([0x80, 0, 0, 0, 0, 0, 0, 0], Due::Entries, Some(24)),
             // an operand of kind 1, and 25 before the turn
-            case([0x20, 0, 0, 1, 0x10, 0, 0, 0], Due::Nothing, 25),
-            case([0x20, 0, 0, 1, 0, 0, 0, 0], Due::Units, 26),
-            case([0x20, 0, 0, 1, 0, 0, 0, 0], Due::Corners, 0),
+            case([0x20, 0, 0, 1, 0x10, 0, 0, 0], Due::Nothing, Some(25)),
+            case([0x20, 0, 0, 1, 0, 0, 0, 0], Due::Units, Some(26)),
+            case([0x20, 0, 0, 1, 0, 0, 0, 0], Due::Corners, None),
             // a close with value 1
-            case([0x70, 0, 0, 1, 0, 0, 0, 0], Due::Nothing, 26),
-            case([0x70, 0, 0, 1, 0, 0, 0, 0], Due::Entries, 27),
-            case([0x70, 0, 0, 0, 0, 0, 0, 0], Due::Entries, 0),
+            case([0x70, 0, 0, 1, 0, 0, 0, 0], Due::Nothing, Some(26)),
+            case([0x70, 0, 0, 1, 0, 0, 0, 0], Due::Entries, Some(27)),
+            case([0x70, 0, 0, 0, 0, 0, 0, 0], Due::Entries, None),
         ];
         for front in &fronts {
             assert_eq!(rt; fault(&front.file, front.due), front.fault);
@@ -131,9 +130,9 @@ mod tests {
 
     #[test]
     fn lengths_and_ends(rt: HostRuntime) {
-        assert_eq!(rt; fault(&[], Due::Terms), 26);
-        assert_eq!(rt; fault(&[], Due::Corners), 0);
-        assert_eq!(rt; fault(&[0x20, 0, 0, 1], Due::Nothing), 25);
+        assert_eq!(rt; fault(&[], Due::Terms), Some(26));
+        assert_eq!(rt; fault(&[], Due::Corners), None);
+        assert_eq!(rt; fault(&[0x20, 0, 0, 1], Due::Nothing), Some(25));
         let long = [0; 65_536];
         assert!(rt; Reader::new(&long[0..65_532]).check().is_ok());
         assert!(rt; Reader::new(&long).check().is_err());

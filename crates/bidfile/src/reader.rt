@@ -6,42 +6,19 @@ ghost use Rattle.bidfile.specs.Items.{size};
 ghost use Rattle.bidfile.specs.Words.{words};
 
 use crate::fault::{FileFault, FileQuestion};
-use crate::fields::record_at;
+use crate::head::Head;
 use crate::records::{Due, Placed, Record};
-use crate::words::{count, is_whole, kind, size_of};
+use crate::words::count;
 
 const MOST_BYTES: usize = 65_532;
 
-// Questions 24, 25 and 26 of the record at a place.
-fn ask(file: &[u8], at: usize, due: Due) -> Result<(), FileQuestion>
-    requires { at < words file.now }
-    ensures answer { result ≡ asked due (found_at file.now at) }
-    ensures there { There file.now at result }
-{
-    let kind = kind(file, at);
-    if kind < 1 || kind > 7 {
-        return Err(FileQuestion::Kind);
-    }
-    if !is_whole(file, at) {
-        return Err(FileQuestion::Words);
-    }
-    if !due.admits(kind) {
-        return Err(FileQuestion::Turn);
-    }
-    Ok(())
-}
-
 // The record at a place, after all its questions.
-fn read<'a>(file: &'a [u8], at: usize, due: Due) -> Result<Record<'a>, FileQuestion>
+fn read<'a>(file: &'a [u8], at: usize, due: Due) -> Result<Record<&'a [u8]>, FileQuestion>
     requires { at < words file.now }
     ensures answer { told_record result ≡ read_out (asked due (found_at file.now at)) (item_at file.now at) }
     ensures there { There file.now at result }
 {
-    ask(file, at, due)?;
-    match record_at(file, at) {
-        Some(record) => Ok(record),
-        None => Err(FileQuestion::Fields),
-    }
+    Head::find(file, at, due)?.record()
 }
 
 // The record at a place with its place, or the fault there.
@@ -50,10 +27,8 @@ fn take<'a>(file: &'a [u8], place: usize, due: Due) -> Result<Placed<'a>, FileFa
     ensures answer { told_one result ≡ handed due (found file.now place) }
     ensures taken { TakenOrNot file.now place result }
 {
-    match read(file, place, due) {
-        Ok(record) => Ok(Placed { place, record }),
-        Err(question) => Err(FileFault { question, place }),
-    }
+    let record = read(file, place, due).map_err(|question| FileFault { question, place })?;
+    Ok(Placed { place, record })
 }
 
 // Where the file ends.
@@ -101,16 +76,6 @@ impl<'a> Reader<'a> {
         }
     }
 
-    // Goes on behind a record of a kind.
-    fn pass(&mut self, kind: u32)
-        requires { self.old.at + size kind ≤ words self.old.file.now }
-        ensures file { self.new.file ≡ self.old.file }
-        ensures bytes { self.new.file.now ≡ self.old.file.now }
-        ensures place { self.new.at ≡ self.old.at + size kind }
-    {
-        self.at += size_of(kind);
-    }
-
     // The next record, where those that are due are in turn, or none at the end.
     pub fn next(&mut self, due: Due) -> Result<Option<Placed<'a>>, FileFault>
         ensures answer { told result ≡ handed due (found self.old.file.now self.old.at) }
@@ -123,7 +88,7 @@ impl<'a> Reader<'a> {
             return end(due);
         }
         let placed = take(self.file, self.at, due)?;
-        self.pass(kind(self.file, self.at));
+        self.at += placed.record.kind().size();
         Ok(Some(placed))
     }
 }

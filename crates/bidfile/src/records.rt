@@ -1,80 +1,30 @@
-ghost use Rattle.std.specs.Prelude.{◌≡◌, true, false};
-ghost use Rattle.bidfile.specs.declared.records.CurveChoice.TheVariants.{Straight, Stepped};
-ghost use Rattle.bidfile.specs.declared.records.OrderChoice.TheVariants.{ByRule, ByName};
-ghost use Rattle.bidfile.specs.Items.{curve_number, order_number, selected, in_turn, may_end};
+ghost use Rattle.std.specs.Prelude.{◌≡◌};
+
+use crate::kind::Kind;
+use curve::Corner;
 
 // The demand curve that a file selects.
-#[derive(Clone, Copy)]
+#[derive(Clone, Copy, PartialEq, Eq, Debug)]
 pub enum CurveChoice {
     Straight,
     Stepped,
 }
 
-impl CurveChoice {
-    // The curve that a field selects.
-    pub fn from_number(number: u32) -> Option<CurveChoice>
-        ensures { result ≡ selected Straight Stepped number }
-    {
-        match number {
-            0 => Some(CurveChoice::Straight),
-            1 => Some(CurveChoice::Stepped),
-            _ => None,
-        }
-    }
-
-    // The field that selects the curve.
-    pub fn number(self) -> u32
-        ensures { result ≡ curve_number self }
-    {
-        match self {
-            CurveChoice::Straight => 0,
-            CurveChoice::Stepped => 1,
-        }
-    }
-}
-
 // The order of ties that a file selects.
-#[derive(Clone, Copy)]
+#[derive(Clone, Copy, PartialEq, Eq, Debug)]
 pub enum OrderChoice {
     ByRule,
     ByName,
 }
 
-impl OrderChoice {
-    // The order that a field selects.
-    pub fn from_number(number: u32) -> Option<OrderChoice>
-        ensures { result ≡ selected ByRule ByName number }
-    {
-        match number {
-            0 => Some(OrderChoice::ByRule),
-            1 => Some(OrderChoice::ByName),
-            _ => None,
-        }
-    }
-
-    // The field that selects the order.
-    pub fn number(self) -> u32
-        ensures { result ≡ order_number self }
-    {
-        match self {
-            OrderChoice::ByRule => 0,
-            OrderChoice::ByName => 1,
-        }
-    }
+// The side of a unit.
+#[derive(Clone, Copy, PartialEq, Eq, Debug)]
+pub enum SideChoice {
+    Taker,
+    Maker,
 }
 
-// Whether a side field selects a maker.
-pub(crate) fn maker_from_number(number: u32) -> Option<bool>
-    ensures { result ≡ selected false true number }
-{
-    match number {
-        0 => Some(false),
-        1 => Some(true),
-        _ => None,
-    }
-}
-
-#[derive(Clone, Copy)]
+#[derive(Clone, Copy, PartialEq, Eq, Debug)]
 pub struct TermsRecord {
     pub cap: u32,
     pub spread: u32,
@@ -83,57 +33,71 @@ pub struct TermsRecord {
     pub order: OrderChoice,
 }
 
-#[derive(Clone, Copy)]
-pub struct CornerRecord {
-    pub quantity: u32,
-    pub price: u32,
-}
-
-// A unit; its name is the eight bytes that stand in the file.
-#[derive(Clone, Copy)]
-pub struct UnitRecord<'a> {
+// A unit, by what holds the eight bytes of its name: the file that it was read from, or an array.
+#[derive(Clone, Copy, PartialEq, Eq, Debug)]
+pub struct UnitRecord<N> {
     pub capacity: u32,
     pub class: u32,
-    pub is_maker: bool,
+    pub side: SideChoice,
     pub years: u32,
     pub random: u32,
-    pub name: &'a [u8],
+    pub name: N,
 }
 
-#[derive(Clone, Copy)]
+#[derive(Clone, Copy, PartialEq, Eq, Debug)]
 pub struct ExitRecord {
     pub unit: u32,
     pub price: u32,
 }
 
-#[derive(Clone, Copy)]
+#[derive(Clone, Copy, PartialEq, Eq, Debug)]
 pub struct YearsRecord {
     pub unit: u32,
     pub years: u32,
 }
 
-// A record of a bid file.
-#[derive(Clone, Copy)]
-pub enum Record<'a> {
+// A record of a bid file, by what holds the name of a unit.
+#[derive(Clone, Copy, PartialEq, Eq, Debug)]
+pub enum Record<N> {
     Terms(TermsRecord),
-    Corner(CornerRecord),
-    Unit(UnitRecord<'a>),
+    Corner(Corner),
+    Unit(UnitRecord<N>),
     Exit(ExitRecord),
     Years(YearsRecord),
     StepBack,
     Close,
 }
 
-// A record with the place of its head word.
-#[derive(Clone, Copy)]
+// A record with the place of its head word; its name is the eight bytes that stand in the file.
+#[derive(Clone, Copy, PartialEq, Eq, Debug)]
 pub struct Placed<'a> {
     pub place: usize,
-    pub record: Record<'a>,
+    pub record: Record<&'a [u8]>,
+}
+
+impl<N> Record<N> {
+    ghost use Rattle.std.specs.Prelude.{ℕ, List};
+    ghost use Rattle.bidfile.specs.Items.{kind_number, item_with, item_kind};
+
+    // Its kind.
+    pub fn kind(&self) -> Kind
+        ensures { (bytes : N → List ℕ) → kind_number result ≡ item_kind (item_with bytes self.now) }
+    {
+        match self {
+            Record::Terms(_) => Kind::Terms,
+            Record::Corner(_) => Kind::Corner,
+            Record::Unit(_) => Kind::Unit,
+            Record::Exit(_) => Kind::Exit,
+            Record::Years(_) => Kind::Years,
+            Record::StepBack => Kind::StepBack,
+            Record::Close => Kind::Close,
+        }
+    }
 }
 
 // Which records are in turn: the terms alone; corners and all that comes later; units and all that comes later; exits,
 // years, steps back and closes; or none.
-#[derive(Clone, Copy)]
+#[derive(Clone, Copy, PartialEq, Eq, Debug)]
 pub enum Due {
     Terms,
     Corners,
@@ -143,15 +107,17 @@ pub enum Due {
 }
 
 impl Due {
+    ghost use Rattle.bidfile.specs.Items.{kind_number, in_turn, may_end};
+
     // Whether a record of a kind is in turn.
-    pub(crate) fn admits(self, kind: u32) -> bool
-        ensures { result ≡ in_turn self kind }
+    pub(crate) fn admits(self, kind: Kind) -> bool
+        ensures { result ≡ in_turn self (kind_number kind) }
     {
         match self {
-            Due::Terms => kind == 1,
-            Due::Corners => kind >= 2,
-            Due::Units => kind >= 3,
-            Due::Entries => kind >= 4,
+            Due::Terms => kind == Kind::Terms,
+            Due::Corners => kind >= Kind::Corner,
+            Due::Units => kind >= Kind::Unit,
+            Due::Entries => kind >= Kind::Exit,
             Due::Nothing => false,
         }
     }
@@ -160,6 +126,6 @@ impl Due {
     pub(crate) fn admits_end(self) -> bool
         ensures { result ≡ may_end self }
     {
-        !matches!(self, Due::Terms)
+        self != Due::Terms
     }
 }

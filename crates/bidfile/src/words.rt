@@ -1,6 +1,5 @@
 ghost use Rattle.std.specs.Prelude.{◌≡◌, ◌+◌, ◌-◌, ◌<◌, ◌≤◌};
-ghost use Rattle.bidfile.specs.Found.{operands, plain_words, whole_at};
-ghost use Rattle.bidfile.specs.Items.{size};
+ghost use Rattle.bidfile.specs.Found.{operands, plain_words};
 ghost use Rattle.bidfile.specs.Words.{words, word_at, kind_at, value_at};
 
 // How many words a file has.
@@ -39,30 +38,8 @@ pub(crate) fn value(file: &[u8], at: usize) -> u32
     word(file, at) % (1 << 28)
 }
 
-// The words of a record of a kind.
-pub(crate) fn size_of(kind: u32) -> usize
-    ensures { result ≡ size kind }
-{
-    match kind {
-        1 => 5,
-        3 => 7,
-        2 | 4 | 5 => 2,
-        _ => 1,
-    }
-}
-
-// How many operands of kind 0 a record of a kind has: the words of a name have none.
-fn operands_of(kind: u32) -> usize
-    ensures value { result ≡ operands kind }
-    ensures within { result < size kind }
-{
-    match kind {
-        3 => 4,
-        _ => size_of(kind) - 1,
-    }
-}
-
-fn are_plain(file: &[u8], from: usize, to: usize) -> bool
+// Whether the words of a stretch have kind 0.
+pub(crate) fn are_plain(file: &[u8], from: usize, to: usize) -> bool
     requires from_le_to { from ≤ to }
     requires to_bound { to ≤ words file.now }
     ensures { result ≡ plain_words (to - from) file.now from }
@@ -73,14 +50,4 @@ fn are_plain(file: &[u8], from: usize, to: usize) -> bool
         }
     }
     true
-}
-
-// Whether all words of the record are there and its operands have kind 0.
-pub(crate) fn is_whole(file: &[u8], at: usize) -> bool
-    requires { at < words file.now }
-    ensures { result ≡ whole_at file.now at }
-{
-    let kind = kind(file, at);
-    let operands = at + 1;
-    size_of(kind) <= count(file) - at && are_plain(file, operands, operands + operands_of(kind))
 }

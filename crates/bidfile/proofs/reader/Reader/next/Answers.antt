@@ -1,4 +1,5 @@
-use Rattle.std.proofs.Common.{◌∙◌, arith, rules}
+use Rattle.std.proofs.Common.{ℕ, ◌+◌, ap, ◌∙◌, arith, rules}
+use Rattle.bidfile.specs.Items.{size}
 use Rattle.bidfile.proofs.Handing.{handed_end, stays, moves, lies}
 use Rattle.bidfile.proofs.reader.Reader.next.Goals as goal
 
@@ -20,6 +21,6 @@ returns c =
       answer = c.in_ok-placed.ensures.answer;
       file = search rules;
       bytes = search rules;
-      place = moves c.args.self.now.file.now c.args.self.now.at c.pass.new.self.at c.in_ok-placed.placed (omega arith) taken (search rules);
+      place = moves c.args.self.now.file.now c.args.self.now.at _ c.in_ok-placed.placed (omega arith) taken (ap (λ (n : ℕ). c.args.self.now.at + n) (c.size.ensures ∙ ap size (c.kind.ensures (λ name. name.now) ∙ taken.kind)));
       laid = lies c.args.self.now.file.now c.args.self.now.at c.in_ok-placed.placed taken;
     }
