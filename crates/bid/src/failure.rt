@@ -40,7 +40,7 @@ impl fmt::Display for Failure {
             }
             Failure::Line(line, expected) => write!(f, "line {line}: expected {expected}"),
             Failure::File(fault) => {
-                let number = fault.number();
+                let number = u32::from(fault);
                 let place = fault.place;
                 write!(f, "FAULT FILE {number} WORD {place}")
             }

@@ -119,7 +119,7 @@ fn wrong_line_and_damage(rt: HostRuntime) -> Result<(), Fail> {
     let Some(fault) = listed.fault else {
         return Err(Fail::new("no fault is told"));
     };
-    assert_eq!(rt; fault.number(), 25);
+    assert_eq!(rt; u32::from(fault), 25);
     assert_eq!(rt; fault.place, 1);
     Ok(())
 }

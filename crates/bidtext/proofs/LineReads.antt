@@ -1,21 +1,23 @@
 -- The line of a record is read as that record. Assumes nothing.
-use Rattle.std.proofs.Common.{◌≡◌, ℕ, ◌<◌, Bool, true, false, List, [], ◌∷◌, ◌++◌, Some, Ok, codes, decimal, Result, refl, ap, ◌∙◌, arith}
+use Rattle.std.proofs.Common.{◌≡◌, ℕ, ◌<◌, List, [], ◌∷◌, ◌++◌, Some, Ok, codes, decimal, Result, refl, ap, ◌∙◌, arith}
 use Rattle.bidfile.specs.declared.records.CurveChoice.{CurveChoice}
 use Rattle.bidfile.specs.declared.records.CurveChoice.TheVariants.{Straight, Stepped}
 use Rattle.bidfile.specs.declared.records.OrderChoice.{OrderChoice}
 use Rattle.bidfile.specs.declared.records.OrderChoice.TheVariants.{ByRule, ByName}
 use Rattle.bidfile.specs.declared.records.TermsRecord.{TermsRecord}
+use Rattle.bidfile.specs.declared.records.SideChoice.{SideChoice}
+use Rattle.bidfile.specs.declared.records.SideChoice.TheVariants.{Taker, Maker}
+use Rattle.bidfile.specs.declared.records.Record.TheVariants.{Terms, Corner, Unit, Exit, Years}
+use Rattle.bidfile.specs.declared.records.UnitRecord.{UnitRecord}
 use Rattle.bidfile.specs.Items.{UnitItem, terms, corner, unit, exit, years, step_back, close}
 use Rattle.bidfile.specs.Layout.{Fits}
 use Rattle.bidtext.specs.declared.expected.Expected.{Expected}
-use Rattle.bidtext.specs.declared.owned.OwnRecord.TheVariants.{Terms, Corner, Unit, Exit, Years}
-use Rattle.bidtext.specs.declared.owned.OwnUnit.{OwnUnit}
 use Rattle.bidtext.specs.Fields.{fields}
 use Rattle.bidtext.specs.Lines.{and_then, pair_line, unit_line, fields_record, line_record}
 use Rattle.bidtext.specs.Names.{name_in}
 use Rattle.bidtext.specs.RoundTrip.{line_said, TextReadsBack}
 use Rattle.bidtext.specs.Texts.{curve_word, order_word, side_word, class_word, name_word, line_text}
-use Rattle.bidtext.specs.Values.{number_in, maker_in, class_in}
+use Rattle.bidtext.specs.Values.{number_in, side_in, class_in}
 use Rattle.bidtext.proofs.FieldTexts.{Field, fields_then, fields_last, word, decimal_field, number_reads, class_reads, class_field}
 use Rattle.bidtext.proofs.NameReads.{name_reads, name_field}
 use Rattle.std.specs.List.{AllByRecursion}
@@ -28,9 +30,9 @@ order_field : (o : OrderChoice) → Field (order_word o)
 order_field ByRule = word _ refl (omega arith)
 order_field ByName = word _ refl (omega arith)
 
-side_field : (m : Bool) → Field (side_word m)
-side_field true = word _ refl (omega arith)
-side_field false = word _ refl (omega arith)
+side_field : (m : SideChoice) → Field (side_word m)
+side_field Taker = word _ refl (omega arith)
+side_field Maker = word _ refl (omega arith)
 
 pair_reads : (w : List ℕ) (x y : ℕ) → x < 268435456 → y < 268435456 → pair_line (w ∷ (decimal x ∷ (decimal y ∷ []))) ≡ Ok (x, y)
 pair_reads w x y a b =
@@ -83,28 +85,28 @@ terms_reads x y z Stepped ByName i j k =
     let g = number_reads z k in
     simp (e, f, g)
 
-unit_fields : (u : UnitItem) → AllByRecursion (λ b. b < 256) u.bytes → u.capacity < 268435456 → u.class < 268435456 → u.years < 268435456 → u.random < 268435456 → fields (line_text (unit u)) ≡ codes "unit" ∷ (name_word u.bytes ∷ (decimal u.capacity ∷ (class_word u.class ∷ (side_word u.maker ∷ (codes "years" ∷ (decimal u.years ∷ (codes "random" ∷ (decimal u.random ∷ []))))))))
+unit_fields : (u : UnitItem) → AllByRecursion (λ b. b < 256) u.bytes → u.capacity < 268435456 → u.class < 268435456 → u.years < 268435456 → u.random < 268435456 → fields (line_text (unit u)) ≡ codes "unit" ∷ (name_word u.bytes ∷ (decimal u.capacity ∷ (class_word u.class ∷ (side_word u.side ∷ (codes "years" ∷ (decimal u.years ∷ (codes "random" ∷ (decimal u.random ∷ []))))))))
 unit_fields u n a b c d =
     fields_then (codes "unit") _ _ (word _ refl (omega arith))
     (fields_then (name_word u.bytes) _ _ (name_field u.bytes n)
     (fields_then (decimal u.capacity) _ _ (decimal_field u.capacity a)
     (fields_then (class_word u.class) _ _ (class_field u.class b)
-    (fields_then (side_word u.maker) _ _ (side_field u.maker)
+    (fields_then (side_word u.side) _ _ (side_field u.side)
     (fields_then (codes "years") _ _ (word _ refl (omega arith))
     (fields_then (decimal u.years) _ _ (decimal_field u.years c)
     (fields_then (codes "random") _ _ (word _ refl (omega arith)) (fields_last (decimal u.random) (decimal_field u.random d)))))))))
 
-maker_reads : (m : Bool) → maker_in (side_word m) ≡ Ok m
-maker_reads true = refl
-maker_reads false = refl
+side_reads : (m : SideChoice) → side_in (side_word m) ≡ Ok m
+side_reads Taker = refl
+side_reads Maker = refl
 
-unit_reads : (bs : List ℕ) (x k y z : ℕ) (m : Bool) → name_in (name_word bs) ≡ Ok bs → x < 268435456 → k < 268435456 → y < 268435456 → z < 268435456
-    → unit_line (codes "unit" ∷ (name_word bs ∷ (decimal x ∷ (class_word k ∷ (side_word m ∷ (codes "years" ∷ (decimal y ∷ (codes "random" ∷ (decimal z ∷ []))))))))) ≡ Ok (record { name = bs; capacity = x; class = k; is_maker = m; years = y; random = z })
+unit_reads : (bs : List ℕ) (x k y z : ℕ) (m : SideChoice) → name_in (name_word bs) ≡ Ok bs → x < 268435456 → k < 268435456 → y < 268435456 → z < 268435456
+    → unit_line (codes "unit" ∷ (name_word bs ∷ (decimal x ∷ (class_word k ∷ (side_word m ∷ (codes "years" ∷ (decimal y ∷ (codes "random" ∷ (decimal z ∷ []))))))))) ≡ Ok (record { capacity = x; class = k; side = m; years = y; random = z; name = bs })
 unit_reads bs x k y z m n a b c d =
     then_ok (name_in (name_word bs)) bs _ n
     ∙ then_ok (number_in (decimal x)) x _ (number_reads x a)
     ∙ then_ok (class_in (class_word k)) k _ (class_reads k b)
-    ∙ then_ok (maker_in (side_word m)) m _ (maker_reads m)
+    ∙ then_ok (side_in (side_word m)) m _ (side_reads m)
     ∙ then_ok (number_in (decimal y)) y _ (number_reads y c)
     ∙ then_ok (number_in (decimal z)) z _ (number_reads z d)
 
@@ -114,7 +116,7 @@ said_unit u f =
     let v = f.values in
     let n = f.named in
     ap (λ (fs : List (List ℕ)). line_said (fields_record fs)) (unit_fields u n.1 v.0 v.1.0 v.1.1.0 v.1.1.1.0)
-    ∙ ap (λ (r : Result OwnUnit Expected). line_said (and_then (and_then r (λ x. Ok (Unit x))) (λ x. Ok (Some x)))) (unit_reads u.bytes u.capacity u.class u.years u.random u.maker (name_reads u.bytes n.0 n.1) v.0 v.1.0 v.1.1.0 v.1.1.1.0)
+    ∙ ap (λ (r : Result (UnitRecord (List ℕ)) Expected). line_said (and_then (and_then r (λ x. Ok (Unit x))) (λ x. Ok (Some x)))) (unit_reads u.bytes u.capacity u.class u.years u.random u.side (name_reads u.bytes n.0 n.1) v.0 v.1.0 v.1.1.0 v.1.1.1.0)
 
 -- the text of each record that can be written is read as that record
 pub reads_back : TextReadsBack

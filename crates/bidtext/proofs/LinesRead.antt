@@ -1,9 +1,11 @@
 -- The lines of records are read as these records. Assumes nothing.
-use Rattle.std.proofs.Common.{◌≡◌, ℕ, ◌+◌, ◌<◌, Bool, true, false, eqb, List, [], ◌∷◌, ◌++◌, take, Ok, Err, vec_items, codes, decimal, Result, Vec, sym, refl, ap, ◌∙◌, subst, append_assoc, arith}
+use Rattle.std.proofs.Common.{◌≡◌, ℕ, ◌+◌, ◌<◌, true, false, eqb, List, [], ◌∷◌, ◌++◌, take, Ok, Err, vec_items, codes, decimal, Result, Vec, sym, refl, ap, ◌∙◌, subst, append_assoc, arith}
 use Rattle.bidfile.specs.declared.records.CurveChoice.{CurveChoice}
 use Rattle.bidfile.specs.declared.records.CurveChoice.TheVariants.{Straight, Stepped}
 use Rattle.bidfile.specs.declared.records.OrderChoice.{OrderChoice}
 use Rattle.bidfile.specs.declared.records.OrderChoice.TheVariants.{ByRule, ByName}
+use Rattle.bidfile.specs.declared.records.SideChoice.{SideChoice}
+use Rattle.bidfile.specs.declared.records.SideChoice.TheVariants.{Taker, Maker}
 use Rattle.bidfile.specs.Items.{Item, terms, corner, unit, exit, years, step_back, close}
 use Rattle.bidfile.specs.Layout.{Fits}
 use Rattle.bidtext.specs.declared.expected.Expected.{Expected}
@@ -57,9 +59,9 @@ even_order : (o : OrderChoice) → Even (order_word o)
 even_order ByRule = refl
 even_order ByName = refl
 
-even_side : (m : Bool) → Even (side_word m)
-even_side true = refl
-even_side false = refl
+even_side : (m : SideChoice) → Even (side_word m)
+even_side Taker = refl
+even_side Maker = refl
 
 even_name : (bs : List ℕ) → AllByRecursion (λ b. b < 256) bs → Even (name_word bs)
 unfolding name_word
@@ -83,7 +85,7 @@ even_line (unit u) f =
     even_append (name_word u.bytes) _ (even_name u.bytes f.named.1)
     (even_append (decimal u.capacity) _ (even_number u.capacity v.0)
     (even_append (class_word u.class) _ (even_class u.class v.1.0)
-    (even_append (side_word u.maker) _ (even_side u.maker) (even_append (decimal u.years) _ (even_number u.years v.1.1.0) (even_number u.random v.1.1.1.0)))))
+    (even_append (side_word u.side) _ (even_side u.side) (even_append (decimal u.years) _ (even_number u.years v.1.1.0) (even_number u.random v.1.1.1.0)))))
 even_line (exit e) f = even_pair e.unit e.price f.values.0 f.values.1.0
 even_line (years y) f = even_pair y.unit y.years f.values.0 f.values.1.0
 even_line step_back f = refl

@@ -1,19 +1,19 @@
 -- A record that was read can be written. Assumes nothing.
 use Rattle.std.proofs.Common.{◌≡◌, ℕ, ◌+◌, ◌*◌, ◌<◌, true, ◌&&◌, eqb, ltb, leb, List, length, get_or, drop, Some, None, Ok, Err, codes, Result, refl, ⊎_elim, arith}
+use Rattle.bidfile.specs.declared.records.Record.{Record}
+use Rattle.bidfile.specs.declared.records.Record.TheVariants as own
+use Rattle.bidfile.specs.declared.records.Record.TheVariants.{Terms, Corner, Exit, Years, StepBack, Close}
 use Rattle.bidfile.specs.Items.{terms, corner, exit, years}
 use Rattle.bidfile.specs.Layout.{Fits}
 use Rattle.bidtext.specs.declared.expected.Expected.{Expected}
 use Rattle.bidtext.specs.declared.expected.Expected.TheVariants as expected
 use Rattle.bidtext.specs.declared.letters.Letter.TheVariants.{Hex, Mark}
-use Rattle.bidtext.specs.declared.owned.OwnRecord.{OwnRecord}
-use Rattle.bidtext.specs.declared.owned.OwnRecord.TheVariants as own
-use Rattle.bidtext.specs.declared.owned.OwnRecord.TheVariants.{Terms, Corner, Exit, Years, StepBack, Close}
 use Rattle.bidtext.specs.Fields.{fields, field_at}
 use Rattle.bidtext.specs.Letters.{every}
 use Rattle.bidtext.specs.Lines.{and_then, labelled, terms_line, pair_line, corner_line, unit_line, exit_line, years_line, entry_in, record_in, line_record}
 use Rattle.bidtext.specs.Names.{padded, is_hexed, hex_byte, hex_name, plain_name, name_in}
 use Rattle.bidtext.specs.RoundTrip.{own_item, Fitting}
-use Rattle.bidtext.specs.Values.{value_of, numeral, number_in, keyword, curve_in, order_in, maker_in, class_in, nothing_in}
+use Rattle.bidtext.specs.Values.{value_of, numeral, number_in, keyword, curve_in, order_in, side_in, class_in, nothing_in}
 use Rattle.bidtext.proofs.NameFields.{every_at, hex_small}
 use Rattle.std.proofs.lemmas.List.{get_or_default, get_or_past}
 use Rattle.std.proofs.lemmas.Bool.{cond_both, and_parts, eqb-true, cases_lt}
@@ -119,13 +119,13 @@ unit_fit fs =
     if_then NamedBytes _ (name_in (field_at fs 1)) _ (name_named (field_at fs 1)) (λ name n.
     if_then Small _ (number_in (field_at fs 2)) _ (number_small (field_at fs 2)) (λ capacity a.
     if_then Small _ (class_in (field_at fs 3)) _ (class_small (field_at fs 3)) (λ class b.
-    if_then (λ _. Unit {0}) _ (maker_in (field_at fs 4)) _ (any (maker_in (field_at fs 4))) (λ maker _.
+    if_then (λ _. Unit {0}) _ (side_in (field_at fs 4)) _ (any (side_in (field_at fs 4))) (λ side _.
     if_then Small _ (labelled fs 5 (codes "years") expected.Years) _ (labelled_small fs 5 (codes "years") expected.Years) (λ years c.
     if_then Small _ (labelled fs 7 (codes "random") expected.Random) _ (labelled_small fs 7 (codes "random") expected.Random) (λ random d.
     if_then (λ _. Unit {0}) _ (nothing_in (field_at fs 9)) _ (any (nothing_in (field_at fs 9))) (λ _ _.
     record { values = (a, (b, (c, (d, tt)))); named = n })))))))
 
-abbrev Fit : OwnRecord → Type 0
+abbrev Fit : Record (List ℕ) → Type 0
 Fit r = Fits (own_item r)
 
 entry_fit : (fs : List (List ℕ)) → IfRead Fit (entry_in fs)
@@ -148,7 +148,7 @@ record_fit fs =
     cond_both (bytes_eq (field_at fs 0) (codes "unit")) _ (entry_in fs) (IfRead Fit)
     (λ _. if_then (λ u. Fits (own_item (own.Unit u))) Fit (unit_line fs) (λ u. Ok (own.Unit u)) (unit_fit fs) (λ u h. h)) (λ _. entry_fit fs)))
 
-fitting : (r : Result OwnRecord Expected) → IfRead Fit r → Fitting (and_then r (λ x. Ok (Some x)))
+fitting : (r : Result (Record (List ℕ)) Expected) → IfRead Fit r → Fitting (and_then r (λ x. Ok (Some x)))
 fitting (Ok x) h = h
 fitting (Err e) h = tt
 

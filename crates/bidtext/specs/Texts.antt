@@ -1,9 +1,11 @@
 -- The text of a record, without its newline. Assumes nothing.
-use Rattle.std.specs.Prelude.{ℕ, ◌+◌, ◌/◌, ◌%◌, Bool, true, false, cond, not, ◌&&◌, List, [], ◌∷◌, ◌++◌, take, drop, codes, decimal, ◌==◌, nat_le, nat_lt}
+use Rattle.std.specs.Prelude.{ℕ, ◌+◌, ◌/◌, ◌%◌, Bool, cond, not, ◌&&◌, List, [], ◌∷◌, ◌++◌, take, drop, codes, decimal, ◌==◌, nat_le, nat_lt}
 use Rattle.bidfile.specs.declared.records.CurveChoice.{CurveChoice}
 use Rattle.bidfile.specs.declared.records.CurveChoice.TheVariants.{Straight, Stepped}
 use Rattle.bidfile.specs.declared.records.OrderChoice.{OrderChoice}
 use Rattle.bidfile.specs.declared.records.OrderChoice.TheVariants.{ByRule, ByName}
+use Rattle.bidfile.specs.declared.records.SideChoice.{SideChoice}
+use Rattle.bidfile.specs.declared.records.SideChoice.TheVariants.{Taker, Maker}
 use Rattle.bidfile.specs.Items.{Item, terms, corner, unit, exit, years, step_back, close}
 use Rattle.std.specs.List.{flat_map, prefix_len}
 use Rattle.bidtext.specs.declared.letters.Letter.TheVariants.{Space, Mark}
@@ -18,9 +20,9 @@ abbrev pub order_word : OrderChoice → List ℕ
 order_word ByRule = codes "rule"
 order_word ByName = codes "name"
 
-abbrev pub side_word : Bool → List ℕ
-side_word false = codes "taker"
-side_word true = codes "maker"
+abbrev pub side_word : SideChoice → List ℕ
+side_word Taker = codes "taker"
+side_word Maker = codes "maker"
 
 abbrev pub class_word : ℕ → List ℕ
 class_word n =
@@ -57,7 +59,7 @@ line_text (unit u) =
     codes "unit " ++ (name_word u.bytes
     ++ (codes " " ++ (decimal u.capacity
     ++ (codes " " ++ (class_word u.class
-    ++ (codes " " ++ (side_word u.maker
+    ++ (codes " " ++ (side_word u.side
     ++ (codes " years " ++ (decimal u.years ++ (codes " random " ++ decimal u.random))))))))))
 line_text (exit e) = codes "exit " ++ (decimal e.unit ++ (codes " " ++ decimal e.price))
 line_text (years y) = codes "years " ++ (decimal y.unit ++ (codes " " ++ decimal y.years))

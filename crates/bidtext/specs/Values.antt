@@ -1,10 +1,12 @@
 -- What single fields say: numbers, and words of which one is chosen. Assumes nothing.
-use Rattle.std.specs.Prelude.{ℕ, ◌+◌, ◌-◌, ◌*◌, Bool, true, false, cond, ◌&&◌, List, [], ◌∷◌, length, Ok, Err, codes, Result, ◌==◌, nat_le, nat_lt}
+use Rattle.std.specs.Prelude.{ℕ, ◌+◌, ◌-◌, ◌*◌, Bool, cond, ◌&&◌, List, [], ◌∷◌, length, Ok, Err, codes, Result, ◌==◌, nat_le, nat_lt}
 use Rattle.std.specs.Str.{bytes_eq}
 use Rattle.bidfile.specs.declared.records.CurveChoice.{CurveChoice}
 use Rattle.bidfile.specs.declared.records.CurveChoice.TheVariants.{Straight, Stepped}
 use Rattle.bidfile.specs.declared.records.OrderChoice.{OrderChoice}
 use Rattle.bidfile.specs.declared.records.OrderChoice.TheVariants.{ByRule, ByName}
+use Rattle.bidfile.specs.declared.records.SideChoice.{SideChoice}
+use Rattle.bidfile.specs.declared.records.SideChoice.TheVariants.{Taker, Maker}
 use Rattle.bidtext.specs.declared.expected.Expected.{Expected}
 use Rattle.bidtext.specs.declared.expected.Expected.TheVariants as expected
 use Rattle.bidtext.specs.declared.letters.Letter.TheVariants.{Digit}
@@ -39,9 +41,8 @@ curve_in f = choice (codes "straight") Straight (codes "stepped") Stepped expect
 abbrev pub order_in : List ℕ → Result OrderChoice Expected
 order_in f = choice (codes "rule") ByRule (codes "name") ByName expected.OrderChoice f
 
--- whether a unit is a maker
-abbrev pub maker_in : List ℕ → Result Bool Expected
-maker_in f = choice (codes "taker") false (codes "maker") true expected.Side f
+abbrev pub side_in : List ℕ → Result SideChoice Expected
+side_in f = choice (codes "taker") Taker (codes "maker") Maker expected.Side f
 
 -- a class by its word, or by its number
 abbrev pub class_in : List ℕ → Result ℕ Expected

@@ -29,7 +29,7 @@ fn next_record<'a>(reader: &mut Reader<'a>) -> Result<Option<Placed<'a>>, FileFa
 }
 
 // Adds the line of a record.
-fn add_record(heap: Global, text: &mut String, record: Record<'_>) -> Result<(), AllocError>
+fn add_record(heap: Global, text: &mut String, record: Record<&[u8]>) -> Result<(), AllocError>
     ensures { OnOk result (string_bytes text.new ≡ string_bytes text.old ++ text_line (item_of «record».entry)) }
 {
     let line = record_text(heap, record)?;

@@ -1,27 +1,18 @@
 ghost use Rattle.std.specs.Prelude.{◌≡◌, ◌+◌, ◌*◌, ◌<◌, ◌++◌, OnOk};
-ghost use Rattle.bidfile.specs.Items.{maker_number, terms as terms_item};
+ghost use Rattle.bidfile.specs.Items.{kind_number, terms as terms_item, unit as unit_item};
 ghost use Rattle.bidfile.specs.Layout.{Fits, head, layout, word_bytes};
-ghost use Rattle.bidtext.specs.declared.owned.OwnRecord.TheVariants as own;
-ghost use Rattle.bidtext.specs.RoundTrip.{own_item};
+ghost use Rattle.bidtext.specs.RoundTrip.{own_item, own_unit};
 ghost use Rattle.std.specs.List.{flat_map};
 
-use crate::owned::{OwnRecord, OwnUnit};
-use bidfile::TermsRecord;
+use bidfile::{Kind, Record, TermsRecord, UnitRecord};
 use std::alloc::AllocError;
 
 // A head word.
-fn head(kind: u32, value: u32) -> u32
-    requires kind_bound { kind < 8 }
-    requires value_bound { value < 268435456 }
-    ensures { result ≡ head kind value }
+fn head(kind: Kind, value: u32) -> u32
+    requires { value < 268435456 }
+    ensures { result ≡ head (kind_number kind) value }
 {
-    kind * 268_435_456 + value
-}
-
-fn maker_number(is_maker: bool) -> u32
-    ensures { result ≡ maker_number is_maker }
-{
-    if is_maker { 1 } else { 0 }
+    u32::from(kind) * 268_435_456 + value
 }
 
 fn push_word(words: &mut Vec<u8>, word: u32) -> Result<(), AllocError>
@@ -49,35 +40,38 @@ fn push_terms(words: &mut Vec<u8>, terms: TermsRecord) -> Result<(), AllocError>
     requires { Fits (terms_item terms) }
     ensures { OnOk result (words.new.items ≡ words.old.items ++ layout (terms_item terms)) }
 {
-    let first = head(1, terms.cap);
-    let curve = terms.curve.number();
-    let order = terms.order.number();
+    let first = head(Kind::Terms, terms.cap);
+    let curve = u32::from(terms.curve);
+    let order = u32::from(terms.order);
     push_words(words, &[first, terms.spread, terms.threshold, curve, order])
 }
 
-fn push_unit(words: &mut Vec<u8>, unit: OwnUnit) -> Result<(), AllocError>
-    requires { Fits (own_item (own.Unit unit)) }
-    ensures { OnOk result (words.new.items ≡ words.old.items ++ layout (own_item (own.Unit unit))) }
+fn push_unit(words: &mut Vec<u8>, unit: UnitRecord<[u8; 8]>) -> Result<(), AllocError>
+    requires { Fits (unit_item (own_unit unit)) }
+    ensures { OnOk result (words.new.items ≡ words.old.items ++ layout (unit_item (own_unit unit))) }
 {
-    let first = head(3, unit.capacity);
-    let side = maker_number(unit.is_maker);
+    let first = head(Kind::Unit, unit.capacity);
+    let side = u32::from(unit.side);
     push_words(words, &[first, unit.class, side, unit.years, unit.random])?;
     words.extend_from_slice(&unit.name)?;
     Ok(())
 }
 
 // The words of a record that can be written.
-pub(crate) fn push_record(words: &mut Vec<u8>, record: OwnRecord) -> Result<(), AllocError>
+pub(crate) fn push_record(words: &mut Vec<u8>, record: Record<[u8; 8]>) -> Result<(), AllocError>
     requires { Fits (own_item «record») }
     ensures { OnOk result (words.new.items ≡ words.old.items ++ layout (own_item «record»)) }
 {
     match record {
-        OwnRecord::Terms(terms) => push_terms(words, terms),
-        OwnRecord::Corner(corner) => push_words(words, &[head(2, corner.quantity), corner.price]),
-        OwnRecord::Unit(unit) => push_unit(words, unit),
-        OwnRecord::Exit(exit) => push_words(words, &[head(4, exit.unit), exit.price]),
-        OwnRecord::Years(years) => push_words(words, &[head(5, years.unit), years.years]),
-        OwnRecord::StepBack => push_word(words, head(6, 0)),
-        OwnRecord::Close => push_word(words, head(7, 0)),
+        Record::Terms(terms) => push_terms(words, terms),
+        Record::Corner(corner) => push_words(
+            words,
+            &[head(Kind::Corner, corner.quantity), corner.price],
+        ),
+        Record::Unit(unit) => push_unit(words, unit),
+        Record::Exit(exit) => push_words(words, &[head(Kind::Exit, exit.unit), exit.price]),
+        Record::Years(years) => push_words(words, &[head(Kind::Years, years.unit), years.years]),
+        Record::StepBack => push_word(words, head(Kind::StepBack, 0)),
+        Record::Close => push_word(words, head(Kind::Close, 0)),
     }
 }

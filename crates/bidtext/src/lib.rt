@@ -11,7 +11,6 @@ mod letters;
 mod lines;
 mod listed;
 mod names;
-mod owned;
 mod texts;
 mod values;
 
@@ -21,5 +20,4 @@ pub use faults::TextFault;
 pub use files::text_words;
 pub use lines::read_line;
 pub use listed::Listed;
-pub use owned::{OwnRecord, OwnUnit};
 pub use texts::record_text;

@@ -9,11 +9,11 @@ ghost use Rattle.bidtext.specs.Lines.{labelled, terms_line, pair_line, corner_li
 use crate::expected::Expected;
 use crate::fields::field;
 use crate::names::read_name;
-use crate::owned::{OwnRecord, OwnUnit};
 use crate::values::{
     is_word, read_class, read_curve, read_end, read_number, read_order, read_side, read_word,
 };
-use bidfile::{CornerRecord, ExitRecord, TermsRecord, YearsRecord};
+use bidfile::{ExitRecord, Record, TermsRecord, UnitRecord, YearsRecord};
+use curve::Corner;
 
 // A number behind its word, which stands at a place.
 fn read_labelled(
@@ -59,30 +59,30 @@ fn read_pair(line: &[u8]) -> Result<(u32, u32), Expected>
     Ok((first, second))
 }
 
-fn read_corner(line: &[u8]) -> Result<CornerRecord, Expected>
+fn read_corner(line: &[u8]) -> Result<Corner, Expected>
     ensures { result ≡ corner_line (fields line.now) }
 {
     let (quantity, price) = read_pair(line)?;
-    Ok(CornerRecord { quantity, price })
+    Ok(Corner { quantity, price })
 }
 
-fn read_unit(line: &[u8]) -> Result<OwnUnit, Expected>
+fn read_unit(line: &[u8]) -> Result<UnitRecord<[u8; 8]>, Expected>
     ensures { result ≡ unit_line (fields line.now) }
 {
     let name = read_name(field(line, 1))?;
     let capacity = read_number(field(line, 2))?;
     let class = read_class(field(line, 3))?;
-    let is_maker = read_side(field(line, 4))?;
+    let side = read_side(field(line, 4))?;
     let years = read_labelled(line, 5, b"years", Expected::Years)?;
     let random = read_labelled(line, 7, b"random", Expected::Random)?;
     read_end(field(line, 9))?;
-    Ok(OwnUnit {
-        name,
+    Ok(UnitRecord {
         capacity,
         class,
-        is_maker,
+        side,
         years,
         random,
+        name,
     })
 }
 
@@ -101,42 +101,42 @@ fn read_years(line: &[u8]) -> Result<YearsRecord, Expected>
 }
 
 // A record of a round.
-fn read_entry(line: &[u8]) -> Result<OwnRecord, Expected>
+fn read_entry(line: &[u8]) -> Result<Record<[u8; 8]>, Expected>
     ensures { result ≡ entry_in (fields line.now) }
 {
     let word = field(line, 0);
     if is_word(word, b"exit") {
-        Ok(OwnRecord::Exit(read_exit(line)?))
+        Ok(Record::Exit(read_exit(line)?))
     } else if is_word(word, b"years") {
-        Ok(OwnRecord::Years(read_years(line)?))
+        Ok(Record::Years(read_years(line)?))
     } else if is_word(word, b"back") {
         read_end(field(line, 1))?;
-        Ok(OwnRecord::StepBack)
+        Ok(Record::StepBack)
     } else if is_word(word, b"close") {
         read_end(field(line, 1))?;
-        Ok(OwnRecord::Close)
+        Ok(Record::Close)
     } else {
         Err(Expected::Record)
     }
 }
 
-fn read_record(line: &[u8]) -> Result<OwnRecord, Expected>
+fn read_record(line: &[u8]) -> Result<Record<[u8; 8]>, Expected>
     ensures { result ≡ record_in (fields line.now) }
 {
     let word = field(line, 0);
     if is_word(word, b"auction") {
-        Ok(OwnRecord::Terms(read_terms(line)?))
+        Ok(Record::Terms(read_terms(line)?))
     } else if is_word(word, b"corner") {
-        Ok(OwnRecord::Corner(read_corner(line)?))
+        Ok(Record::Corner(read_corner(line)?))
     } else if is_word(word, b"unit") {
-        Ok(OwnRecord::Unit(read_unit(line)?))
+        Ok(Record::Unit(read_unit(line)?))
     } else {
         read_entry(line)
     }
 }
 
 // The record of a line, or none if it is blank or a comment.
-pub fn read_line(line: &[u8]) -> Result<Option<OwnRecord>, Expected>
+pub fn read_line(line: &[u8]) -> Result<Option<Record<[u8; 8]>>, Expected>
     ensures value { result ≡ line_record line.now }
     ensures back { (item : Item) → Fits item → line.now ≡ line_text item → line_said result ≡ Ok (Some item) }
     ensures fits { Fitting result }

@@ -5,7 +5,7 @@ ghost use Rattle.std.specs.List.{flat_map};
 
 use crate::letters::Letter;
 use crate::names::is_hexed;
-use bidfile::{CurveChoice, OrderChoice, Record, TermsRecord, UnitRecord};
+use bidfile::{CurveChoice, OrderChoice, Record, SideChoice, TermsRecord, UnitRecord};
 use std::alloc::{AllocError, Global};
 use std::str::from_utf8;
 
@@ -27,10 +27,13 @@ fn order_word(order: OrderChoice) -> &'static str
     }
 }
 
-fn side_word(is_maker: bool) -> &'static str
-    ensures { result.now ≡ side_word is_maker }
+fn side_word(side: SideChoice) -> &'static str
+    ensures { result.now ≡ side_word side }
 {
-    if is_maker { "maker" } else { "taker" }
+    match side {
+        SideChoice::Taker => "taker",
+        SideChoice::Maker => "maker",
+    }
 }
 
 fn class_text(heap: Global, class: u32) -> Result<String, AllocError>
@@ -100,20 +103,20 @@ fn terms_text(heap: Global, record: TermsRecord) -> Result<String, AllocError>
     )
 }
 
-fn unit_text(heap: Global, record: UnitRecord<'_>) -> Result<String, AllocError>
+fn unit_text(heap: Global, record: UnitRecord<&[u8]>) -> Result<String, AllocError>
     ensures { IfOk result (λ s. string_bytes s ≡ line_text (unit (unit_item «record».entry))) }
 {
     let name = name_text(heap, record.name)?;
     let capacity = record.capacity;
     let class = class_text(heap, record.class)?;
-    let side = side_word(record.is_maker);
+    let side = side_word(record.side);
     let years = record.years;
     let random = record.random;
     format!(in heap; "unit {name} {capacity} {class} {side} years {years} random {random}")
 }
 
 // The text of a record, without its newline.
-pub fn record_text(heap: Global, record: Record<'_>) -> Result<String, AllocError>
+pub fn record_text(heap: Global, record: Record<&[u8]>) -> Result<String, AllocError>
     ensures { IfOk result (λ s. string_bytes s ≡ line_text (item_of «record».entry)) }
 {
     match record {

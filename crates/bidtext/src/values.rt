@@ -1,10 +1,10 @@
 ghost use Rattle.std.specs.Prelude.{◌≡◌, min};
-ghost use Rattle.bidtext.specs.Values.{value_of, number_in, keyword, curve_in, order_in, maker_in, class_in, nothing_in, numeral};
+ghost use Rattle.bidtext.specs.Values.{value_of, number_in, keyword, curve_in, order_in, side_in, class_in, nothing_in, numeral};
 ghost use Rattle.std.specs.Str.{bytes_eq};
 
 use crate::expected::Expected;
 use crate::letters::Letter;
-use bidfile::{CurveChoice, OrderChoice};
+use bidfile::{CurveChoice, OrderChoice, SideChoice};
 
 // One more than the largest number of 28 bits.
 const LIMIT: u32 = 268_435_456;
@@ -80,14 +80,13 @@ pub(crate) fn read_order(field: &[u8]) -> Result<OrderChoice, Expected>
     }
 }
 
-// Whether a unit is a maker.
-pub(crate) fn read_side(field: &[u8]) -> Result<bool, Expected>
-    ensures { result ≡ maker_in field.now }
+pub(crate) fn read_side(field: &[u8]) -> Result<SideChoice, Expected>
+    ensures { result ≡ side_in field.now }
 {
     if is_word(field, b"taker") {
-        Ok(false)
+        Ok(SideChoice::Taker)
     } else if is_word(field, b"maker") {
-        Ok(true)
+        Ok(SideChoice::Maker)
     } else {
         Err(Expected::Side)
     }

@@ -2,7 +2,7 @@ use Rattle.std.proofs.Common.{◌≡◌, ℕ, List, Some, None, Ok, Option, Resu
 use Rattle.bidfile.specs.Items.{Item}
 use Rattle.bidfile.specs.Layout.{Fits}
 use Rattle.bidtext.specs.declared.expected.Expected.{Expected}
-use Rattle.bidtext.specs.declared.owned.OwnRecord.{OwnRecord}
+use Rattle.bidfile.specs.declared.records.Record.{Record}
 use Rattle.bidtext.specs.Lines.{line_record}
 use Rattle.bidtext.specs.RoundTrip.{line_said, Fitting}
 use Rattle.bidtext.specs.Texts.{line_text}
@@ -11,12 +11,12 @@ use Rattle.bidtext.proofs.ReadFits.{read_fits}
 use Rattle.bidtext.proofs.lines.read_line.Goals as goal
 
 -- what holds of the record of a line
-pub record Answered (line : List ℕ) (r : Result (Option OwnRecord) Expected) : Type 0 where
+pub record Answered (line : List ℕ) (r : Result (Option (Record (List ℕ))) Expected) : Type 0 where
   pub value : r ≡ line_record line
   pub back : (item : Item) → Fits item → line ≡ line_text item → line_said r ≡ Ok (Some item)
   pub fits : Fitting r
 
-answered : (line : List ℕ) (r : Result (Option OwnRecord) Expected) → r ≡ line_record line → Answered line r
+answered : (line : List ℕ) (r : Result (Option (Record (List ℕ))) Expected) → r ≡ line_record line → Answered line r
 answered line r e =
     record {
       value = e;
