@@ -1,3 +1,4 @@
+mod Neighbours
 pub mod DemandWords
 mod NextCorner
 mod Measuring

@@ -1,5 +1,6 @@
-ghost use Rattle.std.specs.Prelude.{◌≡◌, Bool, ◌&&◌, is_ok};
-ghost use Rattle.curve.specs.Corners.{each, neighbours_from, neighbours, in_range, pair_keeps, corner_questions, accepted};
+ghost use Rattle.std.specs.Prelude.{◌≡◌, is_ok};
+ghost use Rattle.std.specs.List.{list_all};
+ghost use Rattle.curve.specs.Corners.{neighbours, in_range, in_order, near, corner_questions, accepted};
 ghost use Rattle.curve.specs.Questions.{refused, question, first_no};
 
 use crate::corner::Corner;
@@ -14,61 +15,28 @@ const WIDEST_GAP: u32 = 10_000_000;
 
 pub(crate) const CEILING: u32 = 200_000_000;
 
-// What is asked of a corner and the next one.
-#[derive(Clone, Copy)]
-pub enum Pair {
-    Order,
-    Gap,
-}
-
-impl Pair {
-    fn keeps(self, corner: Corner, next: Corner) -> bool
-        ensures { result ≡ pair_keeps self corner next }
-    {
-        match self {
-            Pair::Order => corner.quantity < next.quantity && next.price <= corner.price,
-            Pair::Gap => next.quantity.saturating_sub(corner.quantity) <= WIDEST_GAP,
-        }
-    }
-
-    fn keep_from(self, corner: Corner, rest: &[Corner]) -> bool
-        ensures { result ≡ neighbours_from (pair_keeps self) corner rest.now }
-    {
-        let mut last = corner;
-        for next in rest {
-            if !self.keeps(last, *next) {
-                return false;
-            }
-            last = *next;
-        }
-        true
-    }
-
-    fn keep(self, corners: &[Corner]) -> bool
-        ensures { result ≡ neighbours (pair_keeps self) corners.now }
-    {
-        match corners {
-            [] => true,
-            [first, rest @ ..] => self.keep_from(*first, rest),
-        }
-    }
-}
-
-fn is_in_range(corner: Corner) -> bool
-    ensures { result ≡ in_range corner }
-{
-    corner.price <= DEAREST && corner.quantity >= 1 && corner.quantity <= CEILING
-}
-
 fn are_in_range(corners: &[Corner]) -> bool
-    ensures { result ≡ each in_range corners.now }
+    ensures { result ≡ list_all in_range corners.now }
 {
-    for corner in corners {
-        if !is_in_range(*corner) {
-            return false;
-        }
-    }
-    true
+    corners.iter().all(|corner| {
+        corner.price <= DEAREST && corner.quantity >= 1 && corner.quantity <= CEILING
+    })
+}
+
+fn are_in_order(corners: &[Corner]) -> bool
+    ensures { result ≡ neighbours in_order corners.now }
+{
+    corners.is_sorted_by(|corner, next| {
+        corner.quantity < next.quantity && next.price <= corner.price
+    })
+}
+
+fn are_near(corners: &[Corner]) -> bool
+    ensures { result ≡ neighbours near corners.now }
+{
+    corners.is_sorted_by(|corner, next| {
+        next.quantity.saturating_sub(corner.quantity) <= WIDEST_GAP
+    })
 }
 
 // The questions put to the corners of a curve, in order.
@@ -82,17 +50,11 @@ pub(crate) fn check(shape: Shape, corners: &[Corner]) -> Result<(), CurveRefusal
     if !are_in_range(corners) {
         return Err(CurveRefusal::CornerRange);
     }
-    if !Pair::Order.keep(corners) {
+    if !are_in_order(corners) {
         return Err(CurveRefusal::CornerOrder);
     }
     match shape {
-        Shape::Steps => Ok(()),
-        Shape::Lines => {
-            if Pair::Gap.keep(corners) {
-                Ok(())
-            } else {
-                Err(CurveRefusal::CornerGap)
-            }
-        }
+        Shape::Lines if !are_near(corners) => Err(CurveRefusal::CornerGap),
+        _ => Ok(()),
     }
 }
