@@ -1,8 +1,8 @@
 -- Comparing areas over a common denominator compares the areas themselves; and nothing passes 128 bits.
-use Rattle.std.proofs.Common.{◌≡◌, ℕ, zero, suc, ◌+◌, ◌-◌, ◌*◌, ◌^◌, ◌<◌, ◌≤◌, ltb, ℤ, pos, negsuc, ◌-ℤ◌, ◌*ℤ◌, neg_ℤ, sym, ap, ◌∙◌, subst, mul-le-mul_right, mul-le-mul, lt_of_mul-lt-mul_right, mul-lt-mul_of_pos_right, mul-pos, le_of_mul-le-mul_right, arith, w64, SFits, to_z, of_z}
+use Rattle.std.proofs.Common.{◌≡◌, ℕ, zero, suc, ◌+◌, ◌-◌, ◌*◌, ◌^◌, ◌<◌, ◌≤◌, ltb, ℤ, pos, negsuc, ◌-ℤ◌, ◌*ℤ◌, neg_ℤ, sym, ap, ◌∙◌, mul-le-mul_right, mul-le-mul, lt_of_mul-lt-mul_right, mul-lt-mul_of_pos_right, mul-pos, le_of_mul-le-mul_right, arith, w64, SFits, to_z, of_z}
 use lib.Signed.{mag}
 use mir.Syntax.{w128}
-use Rattle.std.proofs.lemmas.Int.{ints, to_z-of_z, to_z_pos}
+use Rattle.std.proofs.lemmas.Int.{ints, to_z-of_z}
 use Rattle.std.proofs.lemmas.Bool.Decides.{nat_tests}
 use Rattle.curve.specs.Weighing.{compared}
 
@@ -15,23 +15,15 @@ times_small (pos a) n lo hi = let le : a ≤ 2 ^ 63 = omega arith in let m = mul
 times_small (negsuc a) n lo hi =
     let le : suc a ≤ 2 ^ 63 = omega arith in let m = mul-le-mul le hi in let k = mag_neg (suc a * n) in omega arith
 
-module _ (s r : ℤ) (n : ℕ) (fits : SFits w64 s) (is : r ≡ to_z w64 (of_z w64 s)) (le : n ≤ 2 ^ 58) where
-  factors : to_z w128 (of_z w128 r) *ℤ to_z w128 n ≡ s *ℤ pos n
-  factors =
+module _ (s r t : ℤ) (n : ℕ) (fits : SFits w64 s) (is : r ≡ to_z w64 (of_z w64 s)) (times : t ≡ pos n) (le : n ≤ 2 ^ 58) where
+  pub goal_is : to_z w128 (of_z w128 (to_z w128 (of_z w128 r) *ℤ to_z w128 (of_z w128 t))) ≡ s *ℤ pos n
+  goal_is =
       let same : r ≡ s = is ∙ to_z-of_z w64 s fits in
       let wide : SFits w128 s = record { sfits = let f = fits.sfits in omega arith } in
       let left : to_z w128 (of_z w128 r) ≡ s = ap (λ (z : ℤ). to_z w128 (of_z w128 z)) same ∙ to_z-of_z w128 s wide in
-      let right : to_z w128 n ≡ pos n = to_z_pos w128 n (omega arith) in
-      ap (λ (z : ℤ). z *ℤ to_z w128 n) left ∙ ap (λ (z : ℤ). s *ℤ z) right
-
-  small : SFits w128 (s *ℤ pos n)
-  small = record { sfits = times_small s n fits.sfits le }
-
-  pub goal_fits : SFits w128 (to_z w128 (of_z w128 r) *ℤ to_z w128 n)
-  goal_fits = subst (SFits w128) (sym factors) small
-
-  pub goal_is : to_z w128 (of_z w128 (to_z w128 (of_z w128 r) *ℤ to_z w128 n)) ≡ s *ℤ pos n
-  goal_is = ap (λ (z : ℤ). to_z w128 (of_z w128 z)) factors ∙ to_z-of_z w128 (s *ℤ pos n) small
+      let right : to_z w128 (of_z w128 t) ≡ pos n = ap (λ (z : ℤ). to_z w128 (of_z w128 z)) times ∙ to_z-of_z w128 (pos n) (record { sfits = omega arith }) in
+      let factors = ap (λ (z : ℤ). z *ℤ to_z w128 (of_z w128 t)) left ∙ ap (λ (z : ℤ). s *ℤ z) right in
+      ap (λ (z : ℤ). to_z w128 (of_z w128 z)) factors ∙ to_z-of_z w128 (s *ℤ pos n) (record { sfits = times_small s n fits.sfits le })
 
 ltb_same : (x y v w : ℕ) → (x < y → v < w) → (v < w → x < y) → ltb x y ≡ ltb v w
 ltb_same x y v w there back = grind (arith, nat_tests)

@@ -1,15 +1,13 @@
 -- Adding up the sides of a curve one after the other gives its running area.
-use Rattle.std.proofs.Common.{◌≡◌, ℕ, ◌+◌, ◌-◌, ◌*◌, ◌<◌, ◌≤◌, true, List, [], ◌∷◌, sym, ap, ◌∙◌, subst, mul-le-mul_right, mul-le-mul_left, arith}
+use Rattle.std.proofs.Common.{◌≡◌, ℕ, ◌+◌, ◌-◌, ◌*◌, ◌<◌, ◌≤◌, true, List, [], ◌∷◌, sym, ap, ◌∙◌, subst, mul-le-mul_left, arith}
 use Rattle.curve.specs.declared.corner.Corner.{Corner}
-use Rattle.curve.specs.declared.outline.Area.{Area}
+use Rattle.curve.specs.declared.area.Area.{Area}
 use Rattle.curve.specs.declared.side.Shape.{Shape}
 use Rattle.curve.specs.declared.side.Side.{Side}
 use Rattle.curve.specs.Corners.{accepted}
-use Rattle.curve.specs.Meaning.{ceiling}
 use Rattle.curve.specs.Measures.{Measured}
 use Rattle.curve.specs.Outline.{side, sides_from, origin, sides, width, height, widths, column, sum_to, Sound}
 use Rattle.curve.specs.AreaUnder.{column_here, column_later}
-use Rattle.curve.specs.Columns.{height_start}
 use Rattle.curve.specs.Falling.{Next, Walking, walking_start, walking_side, walking_sound, walking_next, side_ends, origin_zero}
 use Rattle.curve.specs.SumsTo.{sum_none, sum_grows, sum_most, sum_along}
 
@@ -80,18 +78,6 @@ module _ {all : List Side} {q p twice : ℕ} {s : Side} {ss : List Side} (m : Me
       here_is (sum_to (column all) x) twice (widths all) m.times (width s) (widths ss) (x - q) (s.start * width s + height s x) parts
       (up_to x lo hi) m.product e
 
-  pub here_small : (x parts : ℕ) → s.start ≤ 10000 → q ≤ x → x ≤ s.to → parts ≡ twice * width s + (x - q) * (s.start * width s + height s x)
-      → parts ≤ 20000 * x * width s
-  here_small x parts cheap lo hi e =
-      let h = height_start q p s x n (omega arith) hi in
-      let w = mul-le-mul_right (width s) cheap in
-      let high : s.start * width s + height s x ≤ 20000 * width s = omega arith in
-      let more = mul-le-mul_left (x - q) high in
-      let less = mul-le-mul_right (width s) m.small in
-      let apart : x ≡ q + (x - q) = omega arith in
-      let all_of = ap (λ (k : ℕ). 20000 * k * width s) apart in
-      omega arith
-
 pub measured_past : {all : List Side} {q twice : ℕ} → Measuring all q twice [] → (x : ℕ) → q ≤ x → twice * widths all ≡ sum_to (column all) x * 1
 measured_past {all} {q} m x le =
     let none : (k : ℕ) → q < k → column all k ≤ 0 = λ k past. let e = m.columns k past in omega arith in
@@ -140,30 +126,16 @@ module _ (k : Shape) (all : List Corner) (place twice : ℕ) (c e : Corner) (es 
         before = omega arith;
       }
 
-  pub walked_here : (a : Area) → place ≤ ceiling → place ≤ s.to → a.width ≡ width s
+  pub walked_here : (a : Area) → place ≤ s.to → a.width ≡ width s
       → a.parts ≡ twice * width s + (place - s.from) * (s.start * width s + height s place) → Measured (sides k all) place a
-  walked_here a top hi wide parts =
+  walked_here a hi wide parts =
       let n = next in
       let b = w.before in
       let sound = walked_sound in
       let from-q = ap (λ (q : ℕ). twice * width s + (place - q) * (s.start * width s + height s place)) n.follows in
       let e = measured_here here n place a.parts b hi (parts ∙ from-q) in
-      let low = here_small here n place a.parts sound.cheap b hi (parts ∙ from-q) in
-      let less = mul-le-mul_right (width s) (mul-le-mul_left 20000 top) in
-      let narrow : width s ≤ ceiling = omega arith in
-      let most = mul-le-mul_left 4000000000000 narrow in
-      record {
-        exact = e ∙ ap (λ (x : ℕ). sum_to (column (sides k all)) place * x) (sym wide);
-        bounded = record { some = omega arith; narrow = omega arith; small = omega arith };
-      }
+      e ∙ ap (λ (x : ℕ). sum_to (column (sides k all)) place * x) (sym wide)
 
-pub walked_past : (k : Shape) (all : List Corner) (place twice : ℕ) (c : Corner) → Walked k all place twice c [] → (a : Area) → place ≤ ceiling
-    → a.width ≡ 1 → a.parts ≡ twice → Measured (sides k all) place a
-walked_past k all place twice c w a top wide parts =
-    let e = measured_past w.measuring place w.before in
-    let m = w.measuring.small in
-    let b = w.before in
-    record {
-      exact = ap (λ (x : ℕ). x * widths (sides k all)) parts ∙ (e ∙ ap (λ (x : ℕ). sum_to (column (sides k all)) place * x) (sym wide));
-      bounded = record { some = omega arith; narrow = omega arith; small = omega arith };
-    }
+pub walked_past : (k : Shape) (all : List Corner) (place twice : ℕ) (c : Corner) → Walked k all place twice c []
+    → twice * widths (sides k all) ≡ sum_to (column (sides k all)) place * 1
+walked_past k all place twice c w = measured_past w.measuring place w.before

@@ -3,26 +3,23 @@ ghost use Rattle.std.specs.List.{list_all};
 ghost use Rattle.curve.specs.Corners.{neighbours, in_range, in_order, near, corner_questions, accepted};
 ghost use Rattle.curve.specs.Questions.{refused, question, first_no};
 
-use crate::corner::Corner;
+use crate::corner::{CEILING, Corner, MOST_PENCE};
 use crate::refusal::CurveRefusal;
 use crate::side::Shape;
 
 const MOST_CORNERS: usize = 16;
 
-const DEAREST: u32 = 10_000;
-
 const WIDEST_GAP: u32 = 10_000_000;
-
-pub(crate) const CEILING: u32 = 200_000_000;
 
 fn are_in_range(corners: &[Corner]) -> bool
     ensures { result ≡ list_all in_range corners.now }
 {
     corners.iter().all(|corner| {
-        corner.price <= DEAREST && corner.quantity >= 1 && corner.quantity <= CEILING
+        corner.price <= MOST_PENCE && corner.quantity >= 1 && corner.quantity <= CEILING
     })
 }
 
+// `is_sorted_by` asks every corner and the next one.
 fn are_in_order(corners: &[Corner]) -> bool
     ensures { result ≡ neighbours in_order corners.now }
 {

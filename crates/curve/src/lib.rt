@@ -1,23 +1,25 @@
 // Demand curves: the interface that the auction is written over, and the two curves that are built.
 #![tactic(auto)]
 
+mod area;
 mod check;
 mod corner;
+mod cornered;
 mod demand;
+mod form;
+mod given_back;
 mod outline;
 mod refusal;
 mod side;
 mod sign;
-mod stepped;
-mod straight;
-mod weigh;
 
-pub use corner::Corner;
+pub use corner::{CEILING, Corner, MOST_PENCE};
+pub use cornered::{Cornered, Stepped, Straight};
 pub use demand::{Curve, words_hold};
-pub use refusal::{CurveRefusal, RefusedCorners};
+pub use form::{Form, Lines, Steps};
+pub use given_back::GivenBack;
+pub use refusal::CurveRefusal;
 pub use sign::Sign;
-pub use stepped::Stepped;
-pub use straight::Straight;
 
 #[cfg(test)]
 mod tests {
@@ -27,18 +29,8 @@ mod tests {
 
     const TOP: u32 = 200_000_000;
 
-    fn straight(heap: Global, corners: &[Corner]) -> Result<Straight, Fail> {
-        match Straight::make(corners.to_vec(heap)?) {
-            Ok(curve) => Ok(curve),
-            Err(_) => Err(Fail::new("no straight curve")),
-        }
-    }
-
-    fn stepped(heap: Global, corners: &[Corner]) -> Result<Stepped, Fail> {
-        match Stepped::make(corners.to_vec(heap)?) {
-            Ok(curve) => Ok(curve),
-            Err(_) => Err(Fail::new("no stepped curve")),
-        }
+    fn curve<S: Form>(heap: Global, corners: &[Corner]) -> Result<Cornered<S>, Fail> {
+        Cornered::make(corners.to_vec(heap)?).map_err(|_| Fail::new("no curve"))
     }
 
     fn at(quantity: u32, price: u32) -> Corner {
@@ -56,7 +48,7 @@ mod tests {
 
     #[test]
     fn one_corner_with_a_price_at_its_end(rt: HostRuntime) -> Result<(), Fail> {
-        let line = straight(rt.alloc(), &[at(500, 40)])?;
+        let line: Straight = curve(rt.alloc(), &[at(500, 40)])?;
         assert_eq!(rt; line.demand(40), 500);
         assert_eq!(rt; line.demand(41), 0);
         assert_eq!(rt; line.demand(0), TOP);
@@ -69,11 +61,11 @@ mod tests {
 
     #[test]
     fn equal_prices_and_places_on_corners(rt: HostRuntime) -> Result<(), Fail> {
-        let line = straight(rt.alloc(), &[at(10, 6), at(20, 6), at(23, 0)])?;
+        let line: Straight = curve(rt.alloc(), &[at(10, 6), at(20, 6), at(23, 0)])?;
         assert_eq!(rt; line.demand(6), 20);
         assert_eq!(rt; line.demand(5), 21);
         assert_eq!(rt; line.demand(1), 23);
-        let steps = stepped(rt.alloc(), &[at(10, 6), at(20, 6), at(23, 2)])?;
+        let steps: Stepped = curve(rt.alloc(), &[at(10, 6), at(20, 6), at(23, 2)])?;
         assert_eq!(rt; steps.demand(3), 20);
         assert_eq!(rt; steps.demand(2), 23);
         assert!(rt; steps.weigh(10, 20, 60) == Ok(Sign::Level));
@@ -84,7 +76,7 @@ mod tests {
     #[test]
     fn weighing_across_widths(rt: HostRuntime) -> Result<(), Fail> {
         // 5 * 9, then 3 * (9 + 5) / 2, then 1 of 7 wide from 5 to 4: 45 + 21 + 69/14
-        let line = straight(rt.alloc(), &[at(5, 9), at(8, 5), at(15, 4)])?;
+        let line: Straight = curve(rt.alloc(), &[at(5, 9), at(8, 5), at(15, 4)])?;
         assert!(rt; line.weigh(0, 9, 70) == Ok(Sign::Above));
         assert!(rt; line.weigh(0, 9, 71) == Ok(Sign::Below));
         assert!(rt; line.weigh(0, 8, 66) == Ok(Sign::Level));
@@ -94,7 +86,7 @@ mod tests {
 
     #[test]
     fn largest_arguments(rt: HostRuntime) -> Result<(), Fail> {
-        let line = straight(rt.alloc(), &[at(TOP - 10_000_000, 10_000), at(TOP, 0)])?;
+        let line: Straight = curve(rt.alloc(), &[at(TOP - 10_000_000, 10_000), at(TOP, 0)])?;
         assert!(rt; line.weigh(0, TOP, i64::MAX) == Ok(Sign::Below));
         assert!(rt; line.weigh(0, TOP, i64::MIN) == Ok(Sign::Above));
         assert!(rt; line.weigh(0, TOP, 1_950_000_000_000) == Ok(Sign::Level));

@@ -1,8 +1,6 @@
 ghost use Rattle.std.specs.Prelude.{◌≡◌};
 ghost use Rattle.curve.specs.Questions.{question};
 
-use crate::corner::Corner;
-
 // The questions of this layer that can be answered "no".
 #[derive(Clone, Copy, PartialEq, Eq, Debug)]
 pub enum CurveRefusal {
@@ -13,12 +11,12 @@ pub enum CurveRefusal {
     Places,
 }
 
-impl CurveRefusal {
-    // The number under which docs/questions.md lists the question.
-    pub fn number(self) -> u32
-        ensures { result ≡ question self }
-    {
-        match self {
+// The number under which docs/questions.md lists the question.
+impl From<CurveRefusal> for u32 {
+    ghost from_gives = { λ refusal number. number ≡ question refusal };
+
+    fn from(refusal: CurveRefusal) -> u32 {
+        match refusal {
             CurveRefusal::CornerCount => 1,
             CurveRefusal::CornerRange => 2,
             CurveRefusal::CornerOrder => 3,
@@ -26,11 +24,4 @@ impl CurveRefusal {
             CurveRefusal::Places => 5,
         }
     }
-}
-
-// Corners that make no curve, given back with the first question that they fail.
-#[derive(Drop)]
-pub struct RefusedCorners {
-    pub corners: Vec<Corner>,
-    pub why: CurveRefusal,
 }

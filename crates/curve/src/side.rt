@@ -1,7 +1,9 @@
-ghost use Rattle.std.specs.Prelude.{◌≡◌, ◌+◌, ◌*◌, ◌<◌, ◌≤◌};
+ghost use Rattle.std.specs.Prelude.{◌≡◌, ◌+◌, ◌-◌, ◌*◌, ◌<◌, ◌≤◌};
 ghost use Rattle.curve.specs.Outline.{side as the_side, width as the_width, height as the_height, crossing as the_crossing, up, Sound};
 
+use crate::area::Area;
 use crate::corner::Corner;
+use crate::form::Form;
 
 // How the price goes from one corner to the next: by a step, or along a line.
 #[derive(Clone, Copy)]
@@ -27,10 +29,10 @@ fn rounded_up(over: u64, under: u64) -> u64
 }
 
 impl Side {
-    pub(crate) fn between(shape: Shape, corner: Corner, next: Corner) -> Side
-        ensures { result ≡ the_side shape corner next }
+    pub(crate) fn between<S: Form>(corner: Corner, next: Corner) -> Side
+        ensures { result ≡ the_side S.SHAPE corner next }
     {
-        let start = match shape {
+        let start = match S::SHAPE {
             Shape::Steps => next.price,
             Shape::Lines => corner.price,
         };
@@ -79,5 +81,20 @@ impl Side {
         ensures small { result ≤ 4000000000000 }
     {
         u64::from(self.width()) * u64::from(self.start + self.end)
+    }
+
+    // The area under a curve up to a place of this side, where `twice` is twice the area before the side.
+    pub(crate) fn area(self, twice: u64, place: u32) -> Area
+        requires { (Sound self) × ((self.from ≤ place) × ((place ≤ self.to) × (twice ≤ 20000 * self.from))) }
+        ensures parts { result.parts ≡ twice * the_width self + (place - self.from) * (self.start * the_width self + the_height self place) }
+        ensures width { result.width ≡ the_width self }
+    {
+        let width = self.width();
+        let heights = u64::from(self.start) * u64::from(width) + self.height(place);
+        Area {
+            parts: u128::from(twice) * u128::from(width)
+                + u128::from(place - self.from) * u128::from(heights),
+            width,
+        }
     }
 }

@@ -1,5 +1,7 @@
 ghost use Rattle.std.specs.Prelude.{◌≡◌};
-ghost use Rattle.curve.specs.Weighing.{sign_number};
+ghost use Rattle.curve.specs.Weighing.{sign_number, compared};
+
+use std::cmp::Ordering;
 
 // How an area compares with a sum: below it, level with it, or above it.
 #[derive(Clone, Copy, PartialEq, Eq, Debug)]
@@ -9,11 +11,22 @@ pub enum Sign {
     Above,
 }
 
-impl Sign {
-    pub fn number(self) -> i32
-        ensures { result ≡ sign_number self }
-    {
-        match self {
+// How one number compares with another.
+pub(crate) fn sign_of(gap: i128, goal: i128) -> Sign
+    ensures { sign_number result ≡ compared gap goal }
+{
+    match gap.cmp(&goal) {
+        Ordering::Less => Sign::Below,
+        Ordering::Equal => Sign::Level,
+        Ordering::Greater => Sign::Above,
+    }
+}
+
+impl From<Sign> for i32 {
+    ghost from_gives = { λ sign number. number ≡ sign_number sign };
+
+    fn from(sign: Sign) -> i32 {
+        match sign {
             Sign::Below => -1,
             Sign::Level => 0,
             Sign::Above => 1,

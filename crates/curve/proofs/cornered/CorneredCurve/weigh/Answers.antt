@@ -8,26 +8,25 @@ use Rattle.curve.proofs.Compared.{areas_compared}
 use Rattle.curve.specs.Falling.{walking_start}
 use Rattle.curve.specs.OutlineLaws.{curve_area}
 use Rattle.curve.specs.SumsTo.{sum_grows}
-use Rattle.curve.proofs.weigh.weigh.Goals as goal
+use Rattle.curve.proofs.cornered.CorneredCurve.weigh.Goals as goal
 
 pub returns : goal.returns
-returns c =
-    let ss = sides c.args.shape c.args.corners.now in
-    let some = widths_some (origin c.args.corners.now).quantity (origin c.args.corners.now).price ss
-    (walking_start c.args.shape c.args.corners.now c.requires).falling in
-    let low = c.measure-low.ensures in
-    let high = c.measure-high.ensures in
+returns g c =
+    let shape = g.S.Form.SHAPE in
+    let corners = c.args.self.now.corners.items in
+    let ss = sides shape corners in
+    let some = widths_some (origin corners).quantity (origin corners).price ss (walking_start shape corners c.args.self.now.fit).falling in
+    let low = c.measure-low.result in
+    let high = c.measure-high.result in
     let areas = sum_grows (column ss) c.args.from c.args.to c.if-from-to.false in
     let gap : SFits w128 c.gap.result = record { sfits = c.gap.type_inv } in
     let goal : SFits w128 c.goal.result = record { sfits = c.goal.type_inv } in
     let sum = to_z-of_z w64 c.args.sum c.ranges.sum in
-    let same = areas_compared c.measure-low.result.parts c.measure-high.result.parts c.measure-low.result.width c.measure-high.result.width
-    (sum_to (column ss) c.args.from) (sum_to (column ss) c.args.to) (widths ss) c.args.sum
-    low.bounded.some high.bounded.some some low.exact high.exact areas in
+    let same = areas_compared low.parts high.parts low.width high.width (sum_to (column ss) c.args.from) (sum_to (column ss) c.args.to) (widths ss) c.args.sum
+    low.some high.some some c.measure-low.ensures c.measure-high.ensures areas in
     let left = to_z-of_z w128 c.gap.result gap in
     let right = to_z-of_z w128 c.goal.result goal in
-    record { weighed = (grind (arith, nat_tests), cc); area = curve_area c.args.shape c.args.corners.now c.requires }
+    record { weighed = (grind (arith, nat_tests), cc); area = curve_area shape corners c.args.self.now.fit }
 
 pub returns-then-from-to : goal.returns-then-from-to
-returns-then-from-to c =
-    record { weighed = search rules; area = curve_area c.args.shape c.args.corners.now c.requires }
+returns-then-from-to g c = record { weighed = search rules; area = curve_area g.S.Form.SHAPE c.args.self.now.corners.items c.args.self.now.fit }
