@@ -9,14 +9,17 @@ ghost use Rattle.selection.specs.declared.curves.SelectedCurve.TheVariants.{Stra
 
 use crate::curves::SelectedCurve;
 use bidfile::CurveChoice;
-use curve::{Corner, Curve, CurveRefusal, RefusedCorners, Sign, Stepped, Straight};
+use curve::{Corner, Curve, CurveRefusal, GivenBack, Sign, Stepped, Straight};
 
 impl SelectedCurve {
     // The curve of the chosen form with these corners, or the corners back with the first question that they fail.
-    pub fn make(choice: CurveChoice, corners: Vec<Corner>) -> Result<SelectedCurve, RefusedCorners>
+    pub fn make(
+        choice: CurveChoice,
+        corners: Vec<Corner>,
+    ) -> Result<SelectedCurve, GivenBack<Vec<Corner>, CurveRefusal>>
         ensures refusal { refused (λ e. question e.why) result ≡ first_no (corner_questions (shape choice) corners.items) }
         ensures meaning { elim result [ Ok c ↦ curve_meaning c ≡ selected_curve choice corners.items | Err e ↦ Unit {0} ] }
-        ensures back { elim result [ Ok c ↦ Unit {0} | Err e ↦ e.corners ≡ corners ] }
+        ensures back { elim result [ Ok c ↦ Unit {0} | Err e ↦ e.value ≡ corners ] }
     {
         match choice {
             CurveChoice::Straight => Ok(SelectedCurve::Straight(Straight::make(corners)?)),

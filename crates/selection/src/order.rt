@@ -8,10 +8,10 @@ use crate::ties::SelectedOrder;
 use bidfile::OrderChoice;
 use ranking::{ByName, ByRule, Exit, Order};
 
-impl SelectedOrder {
-    pub fn new(choice: OrderChoice) -> SelectedOrder
-        ensures { order_ahead result ≡ selected_ties choice }
-    {
+impl From<OrderChoice> for SelectedOrder {
+    ghost from_gives = { λ choice order. order_ahead order ≡ selected_ties choice };
+
+    fn from(choice: OrderChoice) -> SelectedOrder {
         match choice {
             OrderChoice::ByRule => SelectedOrder::ByRule,
             OrderChoice::ByName => SelectedOrder::ByName,
