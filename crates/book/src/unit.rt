@@ -88,7 +88,7 @@ impl Unit {
         self.standing = former;
     }
 
-    // The capacity of a unit that is in, else 0.
+    // The capacity of a unit that is in, else 0. Each exit price is read by `let .. else`, a form that the project keeps.
     pub fn in_kw(&self) -> u32
         ensures { result ≡ in_kw self.now }
     {

@@ -61,7 +61,7 @@ impl Book {
         self.enter(unit, standing);
     }
 
-    // An entry: the unit stands so now.
+    // An entry: the unit stands so now. The table is taken out and put back whole (docs/DECISIONS.md, Book).
     fn enter(&mut self, unit: usize, standing: Standing)
         requires lawful { stood_lawfully (books self.old).units unit standing ≡ true }
         requires room { length (books self.old).entries < 1024 }

@@ -54,8 +54,7 @@ impl Book {
         requires { i < length (books self.now).units }
         ensures { result ≡ years_at price (unit_at (books self.now) i) }
     {
-        let unit = self.unit(i);
-        unit.years_at(price)
+        self.unit(i).years_at(price)
     }
 
     // The exit of the unit i, if it left at a price of at most the cap.
@@ -63,8 +62,7 @@ impl Book {
         requires { i < length (books self.now).units }
         ensures { result ≡ exit_up_to «cap» i (unit_at (books self.now) i) }
     {
-        let unit = self.unit(i);
-        unit.exit_up_to(i, cap)
+        self.unit(i).exit_up_to(i, cap)
     }
 
     pub fn capacity_in(&self) -> u32
