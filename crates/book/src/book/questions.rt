@@ -12,14 +12,12 @@ use crate::refusal::BookRefusal;
 use crate::room::{MOST_ENTRIES, MOST_UNITS};
 use crate::terms::{Application, Terms};
 use crate::unit::Unit;
+use curve::CEILING;
 use ranking::{Exit, Name};
 
 const LEAST_KW: u32 = 1_000;
 
 const MOST_KW: u32 = 5_000_000;
-
-// The most that all units together may have, in kW.
-const CEILING: u32 = 200_000_000;
 
 impl Book {
     pub fn count(&self) -> usize
