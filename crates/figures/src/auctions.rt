@@ -1,17 +1,18 @@
 // The worked auction of five units, conducted call by call.
 
-ghost use Rattle.std.specs.Prelude.{◌≡◌, OnOk};
+ghost use Rattle.std.specs.Prelude.{◌≡◌};
+ghost use Rattle.std.proofs.Common.{rules};
 ghost use Rattle.auction.specs.Steps.{enrolled, exited, served, went_back, closed as closed_so};
 ghost use Rattle.auction.specs.Views.{state};
-ghost use Rattle.figures.specs.Counts.{CountedFor};
 
-use crate::clearings::show_settlement;
-use crate::curves::{made_straight, show_outcome, verdict};
-use crate::outcome::Outcome;
-use crate::tally::Tally;
-use anyhow::anyhow;
+use crate::clearings::Cleared;
+use crate::curves::made_straight;
+use crate::outcome::{ACCEPTED, Outcome};
+use crate::sheet::{Figure, Sheet};
+use crate::units::{BECK, COMBE, DALE, EDGE, HOLT};
+use anyhow::{Context, bail};
 use auction::{Auction, Closed, EnrolmentClock, OpenClock, SettledClock};
-use book::{Application, Room, Side};
+use book::{Application, Room};
 use clearing::{Ground, Settlement};
 use curve::{Curve, Straight};
 use ranking::{ByRule, Exit, Order};
@@ -19,68 +20,56 @@ use std::{fmt, io};
 
 type Worked = Auction<Straight, ByRule>;
 
-const HOLT: Application = Application {
-    capacity: 9_000,
-    class: 0,
-    side: Side::Maker,
-    years: 1,
-    random: 4,
-    name: *b"HOLT-1  ",
-};
+// The number that a unit is given.
+#[derive(Clone, Copy, PartialEq)]
+struct UnitNumber(usize);
 
-const BECK: Application = Application {
-    capacity: 10_000,
-    class: 0,
-    side: Side::Taker,
-    years: 1,
-    random: 9,
-    name: *b"BECK-2  ",
-};
+impl fmt::Display for UnitNumber {
+    fn fmt<W: fmt::Write>(&self, f: &mut fmt::Formatter<W>) -> fmt::Result {
+        let unit = self.0;
+        write!(f, "unit {unit}")
+    }
+}
 
-const COMBE: Application = Application {
-    capacity: 1_400,
-    class: 2,
-    side: Side::Maker,
-    years: 15,
-    random: 2,
-    name: *b"COMBE-3 ",
-};
+impl Figure for UnitNumber {
+    ghost same = { Prim.search rules };
+}
 
-const DALE: Application = Application {
-    capacity: 1_000,
-    class: 3,
-    side: Side::Maker,
-    years: 1,
-    random: 7,
-    name: *b"DALE-4  ",
-};
+// Whether a round that is closed clears.
+#[derive(Clone, Copy, PartialEq)]
+enum End {
+    Shut,
+    Settled,
+}
 
-const EDGE: Application = Application {
-    capacity: 2_000,
-    class: 1,
-    side: Side::Maker,
-    years: 3,
-    random: 5,
-    name: *b"EDGE-5  ",
-};
-
-const ACCEPTED: Outcome = Outcome(None);
+impl fmt::Display for End {
+    fn fmt<W: fmt::Write>(&self, f: &mut fmt::Formatter<W>) -> fmt::Result {
+        f.write_str(match self {
+            End::Shut => "shut",
+            End::Settled => "settled",
+        })
+    }
+}
 
 // What the close of a round comes to.
 #[derive(Clone, Copy, PartialEq)]
 struct Ending {
     capacity_in: u32,
     demand: u32,
-    settled: bool,
+    end: End,
 }
 
 impl fmt::Display for Ending {
     fn fmt<W: fmt::Write>(&self, f: &mut fmt::Formatter<W>) -> fmt::Result {
         let capacity_in = self.capacity_in;
         let demand = self.demand;
-        let word = if self.settled { "settled" } else { "shut" };
-        write!(f, "{capacity_in} in, demand {demand}, {word}")
+        let end = self.end;
+        write!(f, "{capacity_in} in, demand {demand}, {end}")
     }
+}
+
+impl Figure for Ending {
+    ghost same = { Prim.search rules };
 }
 
 // What a unit is awarded.
@@ -98,98 +87,39 @@ impl fmt::Display for Award {
     }
 }
 
-fn show_unit(
-    rt: &HostRuntime,
-    tally: &mut Tally,
-    name: &str,
-    unit: usize,
-    due: usize,
-) -> io::Result<()>
-    ensures { OnOk result (CountedFor (unit ≡ due) tally.old tally.new) }
-{
-    let agrees = unit == due;
-    let word = verdict(agrees);
-    println!(rt; "enrol {name}: unit {unit}, due unit {due}: {word}")?;
-    tally.count(agrees);
-    Ok(())
-}
-
-fn show_ending(rt: &HostRuntime, tally: &mut Tally, ending: Ending, due: Ending) -> io::Result<()>
-    ensures { OnOk result (CountedFor (ending ≡ due) tally.old tally.new) }
-{
-    let agrees = ending == due;
-    let word = verdict(agrees);
-    println!(rt; "close: {ending}, due {due}: {word}")?;
-    tally.count(agrees);
-    Ok(())
-}
-
-fn show_price(
-    rt: &HostRuntime,
-    tally: &mut Tally,
-    settlement: Settlement,
-    due: Settlement,
-) -> io::Result<()>
-    ensures { OnOk result (CountedFor (settlement ≡ due) tally.old tally.new) }
-{
-    let agrees = settlement == due;
-    let word = verdict(agrees);
-    print!(rt; "settlement: ")?;
-    show_settlement(rt, Some(settlement))?;
-    print!(rt; ", due ")?;
-    show_settlement(rt, Some(due))?;
-    println!(rt; ": {word}")?;
-    tally.count(agrees);
-    Ok(())
-}
-
-fn show_award(
-    rt: &HostRuntime,
-    tally: &mut Tally,
-    unit: usize,
-    award: Award,
-    due: Award,
-) -> io::Result<()>
-    ensures { OnOk result (CountedFor (award ≡ due) tally.old tally.new) }
-{
-    let agrees = award == due;
-    let word = verdict(agrees);
-    println!(rt; "award of unit {unit}: {award}, due {due}: {word}")?;
-    tally.count(agrees);
-    Ok(())
+impl Figure for Award {
+    ghost same = { Prim.search rules };
 }
 
 // Opens the auction over K, with ties by rule.
 fn opened(rt: &HostRuntime) -> anyhow::Result<(Worked, EnrolmentClock)> {
     let k = made_straight(rt.alloc())?;
     let room = Room::new(rt.alloc())?;
-    match Auction::open(1, 7_000, 3_000, 2_500, k, ByRule, room) {
-        Ok(made) => Ok(made),
-        Err(_) => Err(anyhow!("the auction is not opened")),
-    }
+    Auction::open(1, 7_000, 3_000, 2_500, k, ByRule, room)
+        .ok()
+        .context("the auction is not opened")
 }
 
 fn enrol_unit<C: Curve, O: Order<Item = Exit>>(
-    rt: &HostRuntime,
-    tally: &mut Tally,
+    sheet: &mut Sheet,
     auction: &mut Auction<C, O>,
     clock: &EnrolmentClock,
     name: &str,
     application: &Application,
-    due: usize,
+    due: UnitNumber,
 ) -> anyhow::Result<()>
     ensures { state C.Curve.meaning O.Order.ahead auction.new ≡ (enrolled (state C.Curve.meaning O.Order.ahead auction.old) clock.now.stamp application.now).0 }
 {
-    let Ok(unit) = auction.enrol(clock, application) else {
-        return Err(anyhow!("a unit is not enrolled"));
-    };
-    show_unit(rt, tally, name, unit, due)?;
+    let unit = auction
+        .enrol(clock, application)
+        .ok()
+        .context("a unit is not enrolled")?;
+    sheet.show(format_args!("enrol {name}: "), UnitNumber(unit), due)?;
     Ok(())
 }
 
 fn show_exit<C: Curve, O: Order<Item = Exit>>(
-    rt: &HostRuntime,
-    tally: &mut Tally,
+    sheet: &mut Sheet,
     auction: &mut Auction<C, O>,
     clock: &OpenClock,
     unit: usize,
@@ -199,13 +129,15 @@ fn show_exit<C: Curve, O: Order<Item = Exit>>(
     ensures { state C.Curve.meaning O.Order.ahead auction.new ≡ (exited (state C.Curve.meaning O.Order.ahead auction.old) clock.now.stamp unit price).0 }
 {
     let answer = Outcome::of_auction(auction.exit(clock, unit, price));
-    print!(rt; "exit of unit {unit} at {price}")?;
-    show_outcome(rt, tally, "", answer, due)
+    sheet.show(
+        format_args!("exit of unit {unit} at {price}: "),
+        answer,
+        due,
+    )
 }
 
 fn show_years<C: Curve, O: Order<Item = Exit>>(
-    rt: &HostRuntime,
-    tally: &mut Tally,
+    sheet: &mut Sheet,
     auction: &mut Auction<C, O>,
     clock: &OpenClock,
     unit: usize,
@@ -215,13 +147,15 @@ fn show_years<C: Curve, O: Order<Item = Exit>>(
     ensures { state C.Curve.meaning O.Order.ahead auction.new ≡ (served (state C.Curve.meaning O.Order.ahead auction.old) clock.now.stamp unit years).0 }
 {
     let answer = Outcome::of_auction(auction.years(clock, unit, years));
-    print!(rt; "years of unit {unit} to {years}")?;
-    show_outcome(rt, tally, "", answer, due)
+    sheet.show(
+        format_args!("years of unit {unit} to {years}: "),
+        answer,
+        due,
+    )
 }
 
 fn show_step_back<C: Curve, O: Order<Item = Exit>>(
-    rt: &HostRuntime,
-    tally: &mut Tally,
+    sheet: &mut Sheet,
     auction: &mut Auction<C, O>,
     clock: &OpenClock,
     due: Outcome,
@@ -229,160 +163,151 @@ fn show_step_back<C: Curve, O: Order<Item = Exit>>(
     ensures { state C.Curve.meaning O.Order.ahead auction.new ≡ (went_back (state C.Curve.meaning O.Order.ahead auction.old) clock.now.stamp).0 }
 {
     let answer = Outcome::of_auction(auction.step_back(clock));
-    show_outcome(rt, tally, "step back", answer, due)
+    sheet.show("step back: ", answer, due)
 }
 
 // Closes a round, and gives the clock that it ends with.
 fn close_round<C: Curve, O: Order<Item = Exit>>(
-    rt: &HostRuntime,
-    tally: &mut Tally,
+    sheet: &mut Sheet,
     auction: &mut Auction<C, O>,
     clock: OpenClock,
     due: Ending,
 ) -> anyhow::Result<Closed>
     ensures { state C.Curve.meaning O.Order.ahead auction.new ≡ (closed_so (state C.Curve.meaning O.Order.ahead auction.old) clock.stamp).0 }
 {
-    let Ok((figures, closed)) = auction.close(clock) else {
-        return Err(anyhow!("a round is not closed"));
-    };
-    let settled = match &closed {
-        Closed::Shut(_) => false,
-        Closed::Settled(_) => true,
+    let (figures, closed) = auction.close(clock).ok().context("a round is not closed")?;
+    let end = match &closed {
+        Closed::Shut(_) => End::Shut,
+        Closed::Settled(_) => End::Settled,
     };
     let ending = Ending {
         capacity_in: figures.capacity_in,
         demand: figures.demand,
-        settled,
+        end,
     };
-    show_ending(rt, tally, ending, due)?;
+    sheet.show("close: ", ending, due)?;
     Ok(closed)
 }
 
 // Enrols the five units, and opens round 1.
 fn enrol_all(
-    rt: &HostRuntime,
-    tally: &mut Tally,
+    sheet: &mut Sheet,
     auction: &mut Worked,
     clock: EnrolmentClock,
 ) -> anyhow::Result<OpenClock> {
-    enrol_unit(rt, tally, auction, &clock, "HOLT-1", &HOLT, 0)?;
-    enrol_unit(rt, tally, auction, &clock, "BECK-2", &BECK, 1)?;
-    enrol_unit(rt, tally, auction, &clock, "COMBE-3", &COMBE, 2)?;
-    enrol_unit(rt, tally, auction, &clock, "DALE-4", &DALE, 3)?;
-    enrol_unit(rt, tally, auction, &clock, "EDGE-5", &EDGE, 4)?;
-    let Ok(open) = auction.begin(clock) else {
-        return Err(anyhow!("round 1 is not begun"));
-    };
-    rt.println("begin: accepted")?;
+    let units = [
+        ("HOLT-1", HOLT),
+        ("BECK-2", BECK),
+        ("COMBE-3", COMBE),
+        ("DALE-4", DALE),
+        ("EDGE-5", EDGE),
+    ];
+    for (due, (name, application)) in units.iter().enumerate() {
+        enrol_unit(sheet, auction, &clock, name, application, UnitNumber(due))?;
+    }
+    let open = auction.begin(clock).ok().context("round 1 is not begun")?;
+    sheet.rt.println("begin: accepted")?;
     Ok(open)
 }
 
 // Conducts round 1, which does not clear, and opens round 2.
 fn round_one(
-    rt: &HostRuntime,
-    tally: &mut Tally,
+    sheet: &mut Sheet,
     auction: &mut Worked,
     clock: OpenClock,
 ) -> anyhow::Result<OpenClock> {
-    show_exit(rt, tally, auction, &clock, 4, 5_000, ACCEPTED)?;
+    show_exit(sheet, auction, &clock, 4, 5_000, ACCEPTED)?;
     let due = Ending {
         capacity_in: 21_400,
         demand: 20_000,
-        settled: false,
+        end: End::Shut,
     };
-    let Closed::Shut(shut) = close_round(rt, tally, auction, clock, due)? else {
-        return Err(anyhow!("round 1 clears"));
+    let Closed::Shut(shut) = close_round(sheet, auction, clock, due)? else {
+        bail!("round 1 clears");
     };
-    let Ok(open) = auction.next(shut) else {
-        return Err(anyhow!("round 2 is not opened"));
-    };
-    rt.println("next: accepted")?;
+    let open = auction.next(shut).ok().context("round 2 is not opened")?;
+    sheet.rt.println("next: accepted")?;
     Ok(open)
 }
 
 // Exits at the edges of round 2, each undone where it was taken.
-fn show_edges(
-    rt: &HostRuntime,
-    tally: &mut Tally,
-    auction: &mut Worked,
-    clock: &OpenClock,
-) -> io::Result<()> {
-    show_exit(rt, tally, auction, clock, 0, 4_000, ACCEPTED)?;
-    show_step_back(rt, tally, auction, clock, ACCEPTED)?;
-    show_exit(rt, tally, auction, clock, 0, 1_000, Outcome(Some(17)))?;
-    show_exit(rt, tally, auction, clock, 1, 2_500, ACCEPTED)?;
-    show_step_back(rt, tally, auction, clock, ACCEPTED)?;
-    show_exit(rt, tally, auction, clock, 1, 2_501, Outcome(Some(18)))
+fn show_edges(sheet: &mut Sheet, auction: &mut Worked, clock: &OpenClock) -> io::Result<()> {
+    show_exit(sheet, auction, clock, 0, 4_000, ACCEPTED)?;
+    show_step_back(sheet, auction, clock, ACCEPTED)?;
+    show_exit(sheet, auction, clock, 0, 1_000, Outcome(Some(17)))?;
+    show_exit(sheet, auction, clock, 1, 2_500, ACCEPTED)?;
+    show_step_back(sheet, auction, clock, ACCEPTED)?;
+    show_exit(sheet, auction, clock, 1, 2_501, Outcome(Some(18)))
 }
 
 // Conducts round 2, which clears.
 fn round_two(
-    rt: &HostRuntime,
-    tally: &mut Tally,
+    sheet: &mut Sheet,
     auction: &mut Worked,
     clock: OpenClock,
 ) -> anyhow::Result<SettledClock> {
-    show_exit(rt, tally, auction, &clock, 1, 3_600, Outcome(Some(18)))?;
-    show_years(rt, tally, auction, &clock, 2, 10, ACCEPTED)?;
-    show_exit(rt, tally, auction, &clock, 0, 3_800, ACCEPTED)?;
-    show_step_back(rt, tally, auction, &clock, ACCEPTED)?;
-    show_edges(rt, tally, auction, &clock)?;
-    show_exit(rt, tally, auction, &clock, 3, 3_600, ACCEPTED)?;
-    show_exit(rt, tally, auction, &clock, 2, 3_600, ACCEPTED)?;
+    show_exit(sheet, auction, &clock, 1, 3_600, Outcome(Some(18)))?;
+    show_years(sheet, auction, &clock, 2, 10, ACCEPTED)?;
+    show_exit(sheet, auction, &clock, 0, 3_800, ACCEPTED)?;
+    show_step_back(sheet, auction, &clock, ACCEPTED)?;
+    show_edges(sheet, auction, &clock)?;
+    show_exit(sheet, auction, &clock, 3, 3_600, ACCEPTED)?;
+    show_exit(sheet, auction, &clock, 2, 3_600, ACCEPTED)?;
     let due = Ending {
         capacity_in: 19_000,
         demand: 27_500,
-        settled: true,
+        end: End::Settled,
     };
-    match close_round(rt, tally, auction, clock, due)? {
-        Closed::Shut(_) => Err(anyhow!("round 2 does not clear")),
-        Closed::Settled(settled) => Ok(settled),
-    }
+    let Closed::Settled(settled) = close_round(sheet, auction, clock, due)? else {
+        bail!("round 2 does not clear");
+    };
+    Ok(settled)
 }
 
 fn read_award<C: Curve, O: Order<Item = Exit>>(
-    rt: &HostRuntime,
-    tally: &mut Tally,
+    sheet: &mut Sheet,
     auction: &Auction<C, O>,
     clock: &SettledClock,
     unit: usize,
     due: Award,
 ) -> anyhow::Result<()> {
-    let Ok((capacity, years)) = auction.award(clock, unit) else {
-        return Err(anyhow!("an award is not read"));
-    };
-    show_award(rt, tally, unit, Award { capacity, years }, due)?;
+    let (capacity, years) = auction
+        .award(clock, unit)
+        .ok()
+        .context("an award is not read")?;
+    let award = Award { capacity, years };
+    sheet.show(format_args!("award of unit {unit}: "), award, due)?;
     Ok(())
 }
 
-fn show_results(
-    rt: &HostRuntime,
-    tally: &mut Tally,
-    auction: &Worked,
-    clock: &SettledClock,
-) -> anyhow::Result<()> {
-    let Ok(settlement) = auction.settlement(clock) else {
-        return Err(anyhow!("the settlement is not read"));
-    };
+fn show_results(sheet: &mut Sheet, auction: &Worked, clock: &SettledClock) -> anyhow::Result<()> {
+    let settlement = auction
+        .settlement(clock)
+        .ok()
+        .context("the settlement is not read")?;
     let due = Settlement {
         price: 3_600,
         ground: Ground::NextTaken,
         stop: 2,
     };
-    show_price(rt, tally, settlement, due)?;
+    sheet.show(
+        "settlement: ",
+        Cleared(Some(settlement)),
+        Cleared(Some(due)),
+    )?;
     let awards = [(9_000, 1), (10_000, 1), (1_400, 10), (1_000, 1), (0, 0)];
     for (unit, (capacity, years)) in awards.iter().copied().enumerate() {
-        read_award(rt, tally, auction, clock, unit, Award { capacity, years })?;
+        read_award(sheet, auction, clock, unit, Award { capacity, years })?;
     }
     Ok(())
 }
 
-pub fn show(rt: &HostRuntime, tally: &mut Tally) -> anyhow::Result<()> {
-    rt.println("The worked auction")?;
-    let (mut auction, enrolling) = opened(rt)?;
-    rt.println("open with cap 7000, spread 3000, threshold 2500: accepted")?;
-    let first = enrol_all(rt, tally, &mut auction, enrolling)?;
-    let second = round_one(rt, tally, &mut auction, first)?;
-    let settled = round_two(rt, tally, &mut auction, second)?;
-    show_results(rt, tally, &auction, &settled)
+pub fn show(sheet: &mut Sheet) -> anyhow::Result<()> {
+    sheet.rt.println("The worked auction")?;
+    let (mut auction, enrolling) = opened(sheet.rt)?;
+    sheet.rt.println("open with cap 7000, spread 3000, threshold 2500: accepted")?;
+    let first = enrol_all(sheet, &mut auction, enrolling)?;
+    let second = round_one(sheet, &mut auction, first)?;
+    let settled = round_two(sheet, &mut auction, second)?;
+    show_results(sheet, &auction, &settled)
 }

@@ -1,80 +1,57 @@
 // Worked clearings over curve K.
 
-ghost use Rattle.std.specs.Prelude.{◌≡◌, Some, Decides, OnOk};
+ghost use Rattle.std.specs.Prelude.{◌≡◌, Some, OnOk};
+ghost use Rattle.std.proofs.Common.{rules};
 ghost use Rattle.clearing.specs.Finding.{outcome_of};
 ghost use Rattle.clearing.specs.Premise.{Clearable};
 ghost use Rattle.figures.specs.Counts.{CountedFor};
 
-use crate::curves::{made_straight, verdict};
-use crate::tally::Tally;
+use crate::curves::made_straight;
+use crate::sheet::{Figure, Sheet};
+use crate::units::{COMBE, DALE, EDGE};
+use book::Application;
 use clearing::{Ground, Settlement, clear};
-use curve::{Curve, Straight};
+use curve::Curve;
 use ranking::Exit;
-use std::io;
+use std::{fmt, io};
 
-const COMBE: Exit = Exit {
-    unit: 2,
-    price: 3_600,
-    capacity: 1_400,
-    years: 10,
-    random: 2,
-    name: *b"COMBE-3 ",
-};
+// What a round comes to: how it cleared, if it did.
+#[derive(Clone, Copy, PartialEq)]
+pub struct Cleared(pub Option<Settlement>);
 
-const LARGER_COMBE: Exit = Exit {
-    unit: 2,
-    price: 3_600,
-    capacity: 1_500,
-    years: 10,
-    random: 2,
-    name: *b"COMBE-3 ",
-};
+impl fmt::Display for Cleared {
+    fn fmt<W: fmt::Write>(&self, f: &mut fmt::Formatter<W>) -> fmt::Result {
+        let Some(settlement) = self.0 else {
+            return f.write_str("does not clear");
+        };
+        let price = settlement.price;
+        let ground = settlement.ground.number();
+        let stop = settlement.stop;
+        write!(f, "price {price}, ground {ground}, stopping place {stop}")
+    }
+}
 
-const DALE: Exit = Exit {
-    unit: 3,
-    price: 3_600,
-    capacity: 1_000,
-    years: 1,
-    random: 7,
-    name: *b"DALE-4  ",
-};
+impl Figure for Cleared {
+    ghost same = { Prim.search rules };
+}
 
-const EDGE: Exit = Exit {
-    unit: 4,
-    price: 5_000,
-    capacity: 2_000,
-    years: 3,
-    random: 5,
-    name: *b"EDGE-5  ",
-};
-
-// Whether a round cleared as it should.
-fn is_due(outcome: Option<Settlement>, due: Option<Settlement>) -> bool
-    ensures { Decides result (outcome ≡ due) }
+// The exit of a unit that applied so.
+fn exit_of(unit: usize, application: &Application, price: u32) -> Exit
+    ensures { result ≡ record { unit = unit; price = price; capacity = application.now.capacity; years = application.now.years; random = application.now.random; name = application.now.name } }
 {
-    match (outcome, due) {
-        (Some(settlement), Some(wanted)) => settlement == wanted,
-        (None, None) => true,
-        _ => false,
+    Exit {
+        unit,
+        price,
+        capacity: application.capacity,
+        years: application.years,
+        random: application.random,
+        name: application.name,
     }
 }
 
-pub fn show_settlement(rt: &HostRuntime, outcome: Option<Settlement>) -> io::Result<()> {
-    match outcome {
-        Some(settlement) => {
-            let price = settlement.price;
-            let ground = settlement.ground.number();
-            let stop = settlement.stop;
-            print!(rt; "price {price}, ground {ground}, stopping place {stop}")
-        }
-        None => print!(rt; "does not clear"),
-    }
-}
-
-// Clears a round and prints the outcome beside what it should be.
+// Clears a round and shows the outcome beside what it should be.
 fn show_clearing<C: Curve>(
-    rt: &HostRuntime,
-    tally: &mut Tally,
+    sheet: &mut Sheet,
     curve: &C,
     floor: u32,
     capacity_in: u32,
@@ -82,27 +59,20 @@ fn show_clearing<C: Curve>(
     due: Option<Settlement>,
 ) -> io::Result<()>
     requires { Clearable floor capacity_in exits.now }
-    ensures { OnOk result (CountedFor (outcome_of (C.meaning curve.now) floor capacity_in exits.now ≡ due) tally.old tally.new) }
+    ensures { OnOk result (CountedFor (outcome_of (C.meaning curve.now) floor capacity_in exits.now ≡ due) sheet.old.tally sheet.new.tally) }
 {
     let outcome = clear(curve, floor, capacity_in, exits);
-    let agrees = is_due(outcome, due);
-    let word = verdict(agrees);
+    let rt = sheet.rt;
     print!(rt; "floor {floor}, {capacity_in} in")?;
     for exit in exits {
         let capacity = exit.capacity;
         let price = exit.price;
         print!(rt; ", {capacity} left at {price}")?;
     }
-    print!(rt; ": ")?;
-    show_settlement(rt, outcome)?;
-    print!(rt; ", due ")?;
-    show_settlement(rt, due)?;
-    println!(rt; ": {word}")?;
-    tally.count(agrees);
-    Ok(())
+    sheet.show(": ", Cleared(outcome), Cleared(due))
 }
 
-fn cleared(price: u32, ground: Ground, stop: usize) -> Option<Settlement>
+fn cleared_so(price: u32, ground: Ground, stop: usize) -> Option<Settlement>
     ensures { result ≡ Some (record { price = price; ground = ground; stop = stop }) }
 {
     Some(Settlement {
@@ -112,56 +82,25 @@ fn cleared(price: u32, ground: Ground, stop: usize) -> Option<Settlement>
     })
 }
 
-pub fn show(rt: &HostRuntime, tally: &mut Tally) -> anyhow::Result<()> {
-    let k = made_straight(rt.alloc())?;
-    rt.println("Clearings over K")?;
-    show_clearing(rt, tally, &k, 4_000, 21_400, &[EDGE], None)?;
-    show_clearing(
-        rt,
-        tally,
-        &k,
-        4_000,
-        20_000,
-        &[],
-        cleared(4_000, Ground::FloorExact, 0),
-    )?;
-    show_clearing(
-        rt,
-        tally,
-        &k,
-        4_000,
-        0,
-        &[],
-        cleared(4_000, Ground::AllFit, 0),
-    )?;
-    show_clearing(
-        rt,
-        tally,
-        &k,
-        1_000,
-        20_000,
-        &[DALE],
-        cleared(3_600, Ground::ExitExact, 1),
-    )?;
-    let ranked = [COMBE, DALE];
-    show_clearing(
-        rt,
-        tally,
-        &k,
-        1_000,
-        19_000,
-        &ranked,
-        cleared(3_600, Ground::NextTaken, 2),
-    )?;
-    let larger = [LARGER_COMBE, DALE];
-    show_clearing(
-        rt,
-        tally,
-        &k,
-        1_000,
-        19_000,
-        &larger,
-        cleared(3_600, Ground::NextLeft, 1),
-    )?;
+pub fn show(sheet: &mut Sheet) -> anyhow::Result<()> {
+    let k = made_straight(sheet.rt.alloc())?;
+    let edge = exit_of(4, &EDGE, 5_000);
+    let dale = exit_of(3, &DALE, 3_600);
+    let mut combe = exit_of(2, &COMBE, 3_600);
+    combe.years = 10;
+    let mut larger = combe;
+    larger.capacity = 1_500;
+    sheet.rt.println("Clearings over K")?;
+    show_clearing(sheet, &k, 4_000, 21_400, &[edge], None)?;
+    let due = cleared_so(4_000, Ground::FloorExact, 0);
+    show_clearing(sheet, &k, 4_000, 20_000, &[], due)?;
+    let due = cleared_so(4_000, Ground::AllFit, 0);
+    show_clearing(sheet, &k, 4_000, 0, &[], due)?;
+    let due = cleared_so(3_600, Ground::ExitExact, 1);
+    show_clearing(sheet, &k, 1_000, 20_000, &[dale], due)?;
+    let due = cleared_so(3_600, Ground::NextTaken, 2);
+    show_clearing(sheet, &k, 1_000, 19_000, &[combe, dale], due)?;
+    let due = cleared_so(3_600, Ground::NextLeft, 1);
+    show_clearing(sheet, &k, 1_000, 19_000, &[larger, dale], due)?;
     Ok(())
 }

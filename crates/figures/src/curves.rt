@@ -5,14 +5,14 @@ ghost use Rattle.curve.specs.Questions.{refused, question};
 ghost use Rattle.curve.specs.Weighing.{Weighed, sign_number};
 ghost use Rattle.figures.specs.Counts.{CountedFor};
 ghost use Rattle.figures.specs.Curves.{worked_corners, FoundSo};
-ghost use Rattle.figures.specs.Texts.{verdict_text, sign_text};
 
-use crate::outcome::Outcome;
-use crate::tally::Tally;
-use anyhow::anyhow;
+use crate::outcome::{ACCEPTED, Outcome};
+use crate::sheet::Sheet;
+use crate::words::Found;
+use anyhow::Context;
 use curve::{Corner, Curve, CurveRefusal, Sign, Stepped, Straight};
 use std::alloc::Global;
-use std::io;
+use std::{array, io};
 
 pub const K: [Corner; 3] = [
     Corner {
@@ -29,137 +29,78 @@ pub const K: [Corner; 3] = [
     },
 ];
 
-pub fn sign_word(sign: Sign) -> &'static str
-    ensures { result.now ≡ sign_text sign }
-{
-    match sign {
-        Sign::Below => "below",
-        Sign::Level => "level with",
-        Sign::Above => "above",
-    }
-}
-
 // The straight curve with the corners of K.
 pub fn made_straight(heap: Global) -> anyhow::Result<Straight>
     ensures { IfOk result (λ c. c.corners.items ≡ worked_corners) }
 {
-    match Straight::make(K.to_vec(heap)?) {
-        Ok(curve) => Ok(curve),
-        Err(_) => Err(anyhow!("the corners make no straight curve")),
-    }
+    Straight::make(K.to_vec(heap)?)
+        .ok()
+        .context("the corners make no straight curve")
 }
 
 // The stepped curve with the corners of K.
 pub fn made_stepped(heap: Global) -> anyhow::Result<Stepped>
     ensures { IfOk result (λ c. c.corners.items ≡ worked_corners) }
 {
-    match Stepped::make(K.to_vec(heap)?) {
-        Ok(curve) => Ok(curve),
-        Err(_) => Err(anyhow!("the corners make no stepped curve")),
-    }
+    Stepped::make(K.to_vec(heap)?)
+        .ok()
+        .context("the corners make no stepped curve")
 }
 
-pub fn verdict(agrees: bool) -> &'static str
-    ensures { result.now ≡ verdict_text agrees }
+fn show_demand<C: Curve>(sheet: &mut Sheet, curve: &C, price: u32, due: u32) -> io::Result<()>
+    ensures { OnOk result (CountedFor ((C.meaning curve.now).demand price ≡ due) sheet.old.tally sheet.new.tally) }
 {
-    if agrees { "agrees" } else { "DIFFERS" }
-}
-
-fn show_demand<C: Curve>(
-    rt: &HostRuntime,
-    tally: &mut Tally,
-    curve: &C,
-    price: u32,
-    due: u32,
-) -> io::Result<()>
-    ensures { OnOk result (CountedFor ((C.meaning curve.now).demand price ≡ due) tally.old tally.new) }
-{
-    let demand = curve.demand(price);
-    let agrees = demand == due;
-    let word = verdict(agrees);
-    println!(rt; "D({price}) = {demand}, due {due}: {word}")?;
-    tally.count(agrees);
-    Ok(())
-}
-
-pub fn show_outcome(
-    rt: &HostRuntime,
-    tally: &mut Tally,
-    what: &str,
-    answer: Outcome,
-    due: Outcome,
-) -> io::Result<()>
-    ensures { OnOk result (CountedFor (answer ≡ due) tally.old tally.new) }
-{
-    let agrees = answer == due;
-    let word = verdict(agrees);
-    println!(rt; "{what}: {answer}, due {due}: {word}")?;
-    tally.count(agrees);
-    Ok(())
+    sheet.show(format_args!("D({price}) = "), curve.demand(price), due)
 }
 
 fn show_weighing<C: Curve>(
-    rt: &HostRuntime,
-    tally: &mut Tally,
+    sheet: &mut Sheet,
     curve: &C,
     from: u32,
     to: u32,
     due: Sign,
 ) -> io::Result<()>
-    ensures { OnOk result (CountedFor (FoundSo (C.meaning curve.now) from to due) tally.old tally.new) }
+    ensures { OnOk result (CountedFor (FoundSo (C.meaning curve.now) from to due) sheet.old.tally sheet.new.tally) }
 {
-    let answer = curve.weigh(from, to, 3_600_000);
-    let (word, agrees) = match answer {
-        Ok(sign) => (sign_word(sign), sign.number() == due.number()),
-        Err(_) => ("refused against", false),
-    };
-    let due_word = sign_word(due);
-    let last = verdict(agrees);
-    println!(rt; "{from} to {to} is {word} 3600000, due {due_word}: {last}")?;
-    tally.count(agrees);
-    Ok(())
+    let found = Found(curve.weigh(from, to, 3_600_000).ok());
+    let due = Found(Some(due));
+    sheet.count(
+        found == due,
+        format_args!("{from} to {to} is {found} 3600000, due {due}"),
+    )
 }
 
-fn show_demands(rt: &HostRuntime, tally: &mut Tally) -> anyhow::Result<()> {
-    let straight = made_straight(rt.alloc())?;
-    rt.println("Demand on the straight curve K")?;
+fn show_demands(sheet: &mut Sheet) -> anyhow::Result<()> {
+    let straight = made_straight(sheet.rt.alloc())?;
+    sheet.rt.println("Demand on the straight curve K")?;
     for (price, due) in [(7_001, 0), (7_000, 10_000), (6_000, 13_334), (1, 29_998)] {
-        show_demand(rt, tally, &straight, price, due)?;
+        show_demand(sheet, &straight, price, due)?;
     }
-    let stepped = made_stepped(rt.alloc())?;
-    rt.println("Demand on the stepped curve with K's corners")?;
+    let stepped = made_stepped(sheet.rt.alloc())?;
+    sheet
+        .rt
+        .println("Demand on the stepped curve with K's corners")?;
     for (price, due) in [(4_001, 10_000), (1, 20_000)] {
-        show_demand(rt, tally, &stepped, price, due)?;
+        show_demand(sheet, &stepped, price, due)?;
     }
     Ok(())
 }
 
-fn show_weighings(rt: &HostRuntime, tally: &mut Tally) -> anyhow::Result<()> {
-    let straight = made_straight(rt.alloc())?;
-    rt.println("Areas of K against 3600000")?;
-    show_weighing(rt, tally, &straight, 20_400, 21_400, Sign::Above)?;
-    show_weighing(rt, tally, &straight, 20_500, 21_500, Sign::Level)?;
-    show_weighing(rt, tally, &straight, 20_600, 21_600, Sign::Below)?;
-    let ceiling = Outcome::of(straight.weigh(0, 200_000_000, 0));
-    show_outcome(rt, tally, "from 0 to the ceiling", ceiling, Outcome(None))?;
-    let past = Outcome::of(straight.weigh(0, 200_000_001, 0));
-    show_outcome(
-        rt,
-        tally,
-        "from 0 to past the ceiling",
-        past,
-        Outcome(Some(5)),
-    )?;
-    let same = Outcome::of(straight.weigh(20_000, 20_000, 0));
-    show_outcome(rt, tally, "from a place to itself", same, Outcome(None))?;
-    let crossed = Outcome::of(straight.weigh(20_001, 20_000, 0));
-    show_outcome(
-        rt,
-        tally,
-        "from a place to one before it",
-        crossed,
-        Outcome(Some(5)),
-    )?;
+fn show_weighings(sheet: &mut Sheet) -> anyhow::Result<()> {
+    let straight = made_straight(sheet.rt.alloc())?;
+    sheet.rt.println("Areas of K against 3600000")?;
+    show_weighing(sheet, &straight, 20_400, 21_400, Sign::Above)?;
+    show_weighing(sheet, &straight, 20_500, 21_500, Sign::Level)?;
+    show_weighing(sheet, &straight, 20_600, 21_600, Sign::Below)?;
+    for (what, from, to, due) in [
+        ("from 0 to the ceiling", 0, 200_000_000, None),
+        ("from 0 to past the ceiling", 0, 200_000_001, Some(5)),
+        ("from a place to itself", 20_000, 20_000, None),
+        ("from a place to one before it", 20_001, 20_000, Some(5)),
+    ] {
+        let answer = Outcome::of(straight.weigh(from, to, 0));
+        sheet.show(format_args!("{what}: "), answer, Outcome(due))?;
+    }
     Ok(())
 }
 
@@ -189,48 +130,40 @@ fn at(quantity: u32, price: u32) -> Corner
 
 // Corners of one price, 1,000 kW apart.
 fn row_of_seventeen() -> [Corner; 17] {
-    let mut corners = [at(1_000, 100); 17];
-    for i in 0..17 {
-        corners[i].quantity = (i as u32 + 1) * 1_000;
-    }
-    corners
+    array::from_fn(|i| at((i as u32 + 1) * 1_000, 100))
 }
 
-fn show_counts(rt: &HostRuntime, tally: &mut Tally) -> io::Result<()> {
+fn show_counts(sheet: &mut Sheet) -> io::Result<()> {
     let row = row_of_seventeen();
-    rt.println("How many corners")?;
-    show_outcome(
-        rt,
-        tally,
-        "no corner",
-        Outcome::of(Straight::check(&row[0..0])),
-        Outcome(Some(1)),
-    )?;
-    show_outcome(
-        rt,
-        tally,
-        "one corner",
-        Outcome::of(Straight::check(&row[0..1])),
-        Outcome(None),
-    )?;
-    show_outcome(
-        rt,
-        tally,
-        "16 corners",
-        Outcome::of(Straight::check(&row[0..16])),
-        Outcome(None),
-    )?;
-    show_outcome(
-        rt,
-        tally,
-        "17 corners",
-        Outcome::of(Straight::check(&row)),
-        Outcome(Some(1)),
-    )
+    let none = Outcome::of(Straight::check(&row[0..0]));
+    let one = Outcome::of(Straight::check(&row[0..1]));
+    let sixteen = Outcome::of(Straight::check(&row[0..16]));
+    let seventeen = Outcome::of(Straight::check(&row));
+    sheet.rt.println("How many corners")?;
+    sheet.show("no corner: ", none, Outcome(Some(1)))?;
+    sheet.show("one corner: ", one, ACCEPTED)?;
+    sheet.show("16 corners: ", sixteen, ACCEPTED)?;
+    sheet.show("17 corners: ", seventeen, Outcome(Some(1)))
 }
 
-fn show_straight_edges(rt: &HostRuntime, tally: &mut Tally) -> io::Result<()> {
-    rt.println("Corners of a straight curve")?;
+// Shows what the questions of a curve answer at these edges.
+fn show_edges<F: Fn(&[Corner]) -> Result<(), CurveRefusal>>(
+    sheet: &mut Sheet,
+    check: F,
+    edges: &[Edge],
+) -> io::Result<()>
+    requires { F.IsAlwaysCallable check }
+{
+    for edge in edges {
+        let what = edge.what;
+        let answer = Outcome::of(check(&edge.corners));
+        sheet.show(format_args!("{what}: "), answer, Outcome(edge.due))?;
+    }
+    Ok(())
+}
+
+fn show_straight_edges(sheet: &mut Sheet) -> io::Result<()> {
+    sheet.rt.println("Corners of a straight curve")?;
     let edges = [
         corners_at("price 10000", at(1_000, 10_000), at(2_000, 0), None),
         corners_at("price 10001", at(1_000, 10_001), at(2_000, 0), Some(2)),
@@ -248,20 +181,11 @@ fn show_straight_edges(rt: &HostRuntime, tally: &mut Tally) -> io::Result<()> {
             Some(4),
         ),
     ];
-    for edge in edges {
-        show_outcome(
-            rt,
-            tally,
-            edge.what,
-            Outcome::of(Straight::check(&edge.corners)),
-            Outcome(edge.due),
-        )?;
-    }
-    Ok(())
+    show_edges(sheet, Straight::check, &edges)
 }
 
-fn show_stepped_edges(rt: &HostRuntime, tally: &mut Tally) -> io::Result<()> {
-    rt.println("Corners of a stepped curve")?;
+fn show_stepped_edges(sheet: &mut Sheet) -> io::Result<()> {
+    sheet.rt.println("Corners of a stepped curve")?;
     let edges = [
         corners_at("10000001 kW apart", at(1_000, 100), at(10_001_001, 0), None),
         corners_at(
@@ -277,23 +201,14 @@ fn show_stepped_edges(rt: &HostRuntime, tally: &mut Tally) -> io::Result<()> {
             Some(2),
         ),
     ];
-    for edge in edges {
-        show_outcome(
-            rt,
-            tally,
-            edge.what,
-            Outcome::of(Stepped::check(&edge.corners)),
-            Outcome(edge.due),
-        )?;
-    }
-    Ok(())
+    show_edges(sheet, Stepped::check, &edges)
 }
 
-pub fn show(rt: &HostRuntime, tally: &mut Tally) -> anyhow::Result<()> {
-    show_demands(rt, tally)?;
-    show_weighings(rt, tally)?;
-    show_counts(rt, tally)?;
-    show_straight_edges(rt, tally)?;
-    show_stepped_edges(rt, tally)?;
+pub fn show(sheet: &mut Sheet) -> anyhow::Result<()> {
+    show_demands(sheet)?;
+    show_weighings(sheet)?;
+    show_counts(sheet)?;
+    show_straight_edges(sheet)?;
+    show_stepped_edges(sheet)?;
     Ok(())
 }

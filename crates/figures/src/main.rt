@@ -6,21 +6,24 @@ mod clearings;
 mod curves;
 mod outcome;
 mod rankings;
+mod sheet;
 mod tally;
 mod theorem;
+mod units;
 mod walk;
+mod words;
 
-use tally::Tally;
+use sheet::Sheet;
 
 fn run(rt: &HostRuntime) -> anyhow::Result<()> {
     walk::show(rt)?;
-    let mut tally = Tally::new();
-    curves::show(rt, &mut tally)?;
-    rankings::show(rt, &mut tally)?;
-    clearings::show(rt, &mut tally)?;
-    auctions::show(rt, &mut tally)?;
-    let shown = tally.shown;
-    let agree = tally.agree;
+    let mut sheet = Sheet::new(rt);
+    curves::show(&mut sheet)?;
+    rankings::show(&mut sheet)?;
+    clearings::show(&mut sheet)?;
+    auctions::show(&mut sheet)?;
+    let shown = sheet.tally.shown;
+    let agree = sheet.tally.agree;
     println!(rt; "{agree} of {shown} figures agree")?;
     Ok(())
 }

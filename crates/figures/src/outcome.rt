@@ -1,12 +1,17 @@
 // What a call answers, as far as its questions go.
 
 ghost use Rattle.std.specs.Prelude.{◌≡◌};
+ghost use Rattle.std.proofs.Common.{rules};
 ghost use Rattle.auction.specs.Steps.{auction_question};
 ghost use Rattle.curve.specs.Questions.{refused, question};
 
+use crate::sheet::Figure;
 use auction::Refusal;
 use curve::CurveRefusal;
 use std::fmt;
+
+// No question was answered "no".
+pub const ACCEPTED: Outcome = Outcome(None);
 
 // The number of the question that was answered "no", if any.
 #[derive(Clone, Copy, PartialEq)]
@@ -19,6 +24,10 @@ impl fmt::Display for Outcome {
             Some(number) => write!(f, "question {number}"),
         }
     }
+}
+
+impl Figure for Outcome {
+    ghost same = { Prim.search rules };
 }
 
 impl Outcome {

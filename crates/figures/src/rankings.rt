@@ -1,11 +1,13 @@
 // A handful of exits ranked under both tie orders, and the roll of their units.
 
-ghost use Rattle.std.specs.Prelude.{◌≡◌, Decides, OnOk};
+ghost use Rattle.std.specs.Prelude.{◌≡◌, List, Decides, OnOk};
+ghost use Rattle.std.specs.Iterator.{IsFinite};
 ghost use Rattle.figures.specs.Counts.{CountedFor};
-ghost use Rattle.figures.specs.Rankings.{all_by_rule, all_by_name, roll_row, NumberedAs};
-ghost use Rattle.ranking.specs.Rankings.{Ranked};
+ghost use Rattle.figures.specs.Rankings.{all_exits, roll_row, NumberedAs};
+ghost use Rattle.ranking.specs.Ahead.{price_ahead};
+ghost use Rattle.ranking.specs.Rankings.{Ranked, RanksExits, ranking_of};
 
-use crate::tally::Tally;
+use crate::sheet::Sheet;
 use ranking::{ByName, ByRule, Exit, ExitRanking, Numbered, Order, RollOrder, RollRow, rank};
 use std::io;
 
@@ -65,57 +67,21 @@ const FIR: Exit = Exit {
 
 const ALL: [Exit; 6] = [ASH, BAY, ELM, YEW, OAK, FIR];
 
-// Two exits that tie, with the unit numbers that are due under each tie order.
-#[derive(Clone, Copy)]
-struct Tie {
-    on: &'static str,
-    exits: [Exit; 2],
-    by_rule: [usize; 2],
-    by_name: [usize; 2],
-}
-
-const TIES: [Tie; 4] = [
-    Tie {
-        on: "tied on price",
-        exits: [ASH, BAY],
-        by_rule: [1, 0],
-        by_name: [0, 1],
-    },
-    Tie {
-        on: "tied on price and capacity",
-        exits: [BAY, ELM],
-        by_rule: [2, 1],
-        by_name: [1, 2],
-    },
-    Tie {
-        on: "tied on price, capacity and years",
-        exits: [ELM, YEW],
-        by_rule: [3, 2],
-        by_name: [2, 3],
-    },
-    Tie {
-        on: "tied on all four",
-        exits: [OAK, YEW],
-        by_rule: [3, 4],
-        by_name: [4, 3],
-    },
+// Two exits that tie, and on what.
+const TIES: [(&str, [Exit; 2]); 4] = [
+    ("tied on price", [ASH, BAY]),
+    ("tied on price and capacity", [BAY, ELM]),
+    ("tied on price, capacity and years", [ELM, YEW]),
+    ("tied on all four", [OAK, YEW]),
 ];
 
-// All the exits, ranked under the rule's tie order.
-pub fn ranked_by_rule() -> [Exit; 6]
-    ensures { result ≡ all_by_rule }
+// All the exits, ranked under a tie order.
+pub fn ranked<O: Order<Item = Exit>>(order: &ExitRanking<O>) -> [Exit; 6]
+    ensures worked_out { result ≡ ranking_of (price_ahead (O.Order.ahead order.now.ties)) all_exits }
+    ensures only { (due : List Exit) → RanksExits (O.Order.ahead order.now.ties) all_exits due → result ≡ due }
 {
     let mut exits = ALL;
-    rank(&ExitRanking { ties: ByRule }, &mut exits);
-    exits
-}
-
-// All the exits, ranked under the tie order by name.
-pub fn ranked_by_name() -> [Exit; 6]
-    ensures { result ≡ all_by_name }
-{
-    let mut exits = ALL;
-    rank(&ExitRanking { ties: ByName }, &mut exits);
+    rank(order, &mut exits);
     exits
 }
 
@@ -123,15 +89,11 @@ pub fn ranked_by_name() -> [Exit; 6]
 fn numbered_as<T: Numbered>(items: &[T], due: &[usize]) -> bool
     ensures { Decides result (NumberedAs T.Numbered.unit items.now due.now) }
 {
-    if items.len() != due.len() {
-        return false;
-    }
-    for i in 0..items.len() {
-        if items[i].unit() != due[i] {
-            return false;
-        }
-    }
-    true
+    items.len() == due.len()
+        && items
+            .iter()
+            .zip(due)
+            .all(|(item, number)| item.unit() == *number)
 }
 
 // Ranks the items, and says whether their unit numbers then come as due.
@@ -143,56 +105,76 @@ pub fn ranks_as<O: Order>(order: &O, items: &mut [O::Item], due: &[usize]) -> bo
     numbered_as(items, due)
 }
 
-// Ranks the items, prints their unit numbers beside those that are due, and counts the figure.
+fn print_numbers<I: Iterator<Item = usize> + Drop>(rt: &HostRuntime, numbers: I) -> io::Result<()>
+    requires can { I.can_next numbers }
+    requires ends { IsFinite (I.remaining numbers) }
+{
+    for number in numbers {
+        print!(rt; " {number}")?;
+    }
+    Ok(())
+}
+
+// Ranks the items, shows their unit numbers beside those that are due, and counts the figure.
 fn show_ranking<O: Order>(
-    rt: &HostRuntime,
-    tally: &mut Tally,
+    sheet: &mut Sheet,
     what: &str,
     order: &O,
     items: &mut [O::Item],
     due: &[usize],
 ) -> io::Result<()>
     ensures ranked { Ranked O.Item.Numbered.unit (O.Order.ahead order.now) items.old items.new }
-    ensures counted { OnOk result (CountedFor (NumberedAs O.Item.Numbered.unit items.new due.now) tally.old tally.new) }
+    ensures counted { OnOk result (CountedFor (NumberedAs O.Item.Numbered.unit items.new due.now) sheet.old.tally sheet.new.tally) }
 {
     let agrees = ranks_as(order, items, due);
+    let rt = sheet.rt;
     print!(rt; "{what}:")?;
-    for item in items.iter() {
-        let unit = item.unit();
-        print!(rt; " {unit}")?;
-    }
+    print_numbers(rt, items.iter().map(|item| item.unit()))?;
     print!(rt; ", due")?;
-    for unit in due {
-        print!(rt; " {unit}")?;
-    }
-    let verdict = if agrees { "agrees" } else { "DIFFERS" };
-    println!(rt; ": {verdict}")?;
-    tally.count(agrees);
-    Ok(())
+    print_numbers(rt, due.iter().copied())?;
+    sheet.count(agrees, "")
 }
 
-// Shows the exits by price, with ties by rule.
-fn show_by_rule(rt: &HostRuntime, tally: &mut Tally) -> io::Result<()> {
-    rt.println("Exits by price, ties by rule; unit numbers")?;
+fn show_tie<O: Order<Item = Exit>>(
+    sheet: &mut Sheet,
+    on: &str,
+    order: &ExitRanking<O>,
+    exits: &[Exit; 2],
+    due: &[usize; 2],
+) -> io::Result<()> {
+    let mut exits = *exits;
+    show_ranking(sheet, on, order, &mut exits, due)
+}
+
+// Shows the exits by price, under a tie order.
+fn show_exits<O: Order<Item = Exit>>(
+    sheet: &mut Sheet,
+    order: &ExitRanking<O>,
+    due_of_ties: &[[usize; 2]; 4],
+    due_of_all: &[usize; 6],
+) -> io::Result<()> {
+    for ((on, exits), due) in TIES.iter().zip(due_of_ties) {
+        show_tie(sheet, on, order, exits, due)?;
+    }
+    show_ranking(sheet, "all exits", order, &mut ALL, due_of_all)
+}
+
+fn show_by_rule(sheet: &mut Sheet) -> io::Result<()> {
+    sheet
+        .rt
+        .println("Exits by price, ties by rule; unit numbers")?;
     let order = ExitRanking { ties: ByRule };
-    for tie in TIES {
-        let mut exits = tie.exits;
-        show_ranking(rt, tally, tie.on, &order, &mut exits, &tie.by_rule)?;
-    }
-    let due = [5, 3, 4, 2, 1, 0];
-    show_ranking(rt, tally, "all exits", &order, &mut ALL, &due)
+    let ties = [[1, 0], [2, 1], [3, 2], [3, 4]];
+    show_exits(sheet, &order, &ties, &[5, 3, 4, 2, 1, 0])
 }
 
-// Shows the exits by price, with ties by name.
-fn show_by_name(rt: &HostRuntime, tally: &mut Tally) -> io::Result<()> {
-    rt.println("Exits by price, ties by name; unit numbers")?;
+fn show_by_name(sheet: &mut Sheet) -> io::Result<()> {
+    sheet
+        .rt
+        .println("Exits by price, ties by name; unit numbers")?;
     let order = ExitRanking { ties: ByName };
-    for tie in TIES {
-        let mut exits = tie.exits;
-        show_ranking(rt, tally, tie.on, &order, &mut exits, &tie.by_name)?;
-    }
-    let due = [5, 0, 1, 2, 4, 3];
-    show_ranking(rt, tally, "all exits", &order, &mut ALL, &due)
+    let ties = [[0, 1], [1, 2], [2, 3], [4, 3]];
+    show_exits(sheet, &order, &ties, &[5, 0, 1, 2, 4, 3])
 }
 
 // The row of an exit's unit in the roll.
@@ -208,23 +190,16 @@ fn row(exit: &Exit) -> RollRow
 }
 
 // Shows the rows of the same units in the order of the roll.
-fn show_roll(rt: &HostRuntime, tally: &mut Tally) -> io::Result<()> {
-    rt.println("The roll; unit numbers")?;
-    let mut rows = [
-        row(&FIR),
-        row(&YEW),
-        row(&OAK),
-        row(&ELM),
-        row(&BAY),
-        row(&ASH),
-    ];
+fn show_roll(sheet: &mut Sheet) -> io::Result<()> {
+    sheet.rt.println("The roll; unit numbers")?;
+    let mut rows = [&FIR, &YEW, &OAK, &ELM, &BAY, &ASH].map(row);
     let due = [0, 1, 2, 5, 4, 3];
-    show_ranking(rt, tally, "all units", &RollOrder, &mut rows, &due)
+    show_ranking(sheet, "all units", &RollOrder, &mut rows, &due)
 }
 
 // Shows the worked rankings, each beside what it should be.
-pub fn show(rt: &HostRuntime, tally: &mut Tally) -> io::Result<()> {
-    show_by_rule(rt, tally)?;
-    show_by_name(rt, tally)?;
-    show_roll(rt, tally)
+pub fn show(sheet: &mut Sheet) -> io::Result<()> {
+    show_by_rule(sheet)?;
+    show_by_name(sheet)?;
+    show_roll(sheet)
 }

@@ -2,7 +2,8 @@
 
 ghost use Rattle.std.specs.Prelude.{◌≡◌, ◌-◌};
 
-use crate::curves::{K, made_straight, sign_word};
+use crate::curves::{K, made_straight};
+use crate::words::Found;
 use curve::{Curve, Straight};
 use std::io;
 
@@ -39,8 +40,8 @@ fn weigh_once<C: Curve>(
 ) -> io::Result<()> {
     match curve.weigh(from, to, sum) {
         Ok(sign) => {
-            let word = sign_word(sign);
-            println!(rt; "the area from {from} to {to} is {word} {sum}")
+            let found = Found(Some(sign));
+            println!(rt; "the area from {from} to {to} is {found} {sum}")
         }
         Err(refusal) => {
             let number = refusal.number();
