@@ -23,12 +23,9 @@ mod tests {
         name: *b"UNIT    ",
     };
 
-    // The number of the question that was answered "no", or 0.
-    fn number<T: Drop>(answer: Result<T, Refusal>) -> u32 {
-        match answer {
-            Ok(_) => 0,
-            Err(why) => why.number(),
-        }
+    // The number of the question that was answered "no", if any.
+    fn refused<T: Drop>(answer: Result<T, Refusal>) -> Option<u32> {
+        answer.err().map(|why| why.number())
     }
 
     // 100,000,000 kW are wanted up to a price.
@@ -37,10 +34,7 @@ mod tests {
             quantity: 100_000_000,
             price,
         }];
-        match Stepped::make(corners.to_vec(heap)?) {
-            Ok(made) => Ok(made),
-            Err(_) => Err(Fail::new("no curve")),
-        }
+        Stepped::make(corners.to_vec(heap)?).map_err(|_| Fail::new("no curve"))
     }
 
     fn curve(heap: Global) -> Result<Stepped, Fail> {
@@ -49,20 +43,17 @@ mod tests {
 
     fn open(heap: Global, number: u16) -> Result<(Rehearsal, EnrolmentClock), Fail> {
         let room = Room::new(heap)?;
-        match Auction::open(number, 9_000, 1_000, 8_500, curve(heap)?, ByName, room) {
-            Ok(made) => Ok(made),
-            Err(_) => Err(Fail::new("not opened")),
-        }
+        Auction::open(number, 9_000, 1_000, 8_500, curve(heap)?, ByName, room).map_err(
+            |_| Fail::new("not opened"),
+        )
     }
 
     fn begin(
         mut auction: Rehearsal,
         clock: EnrolmentClock,
     ) -> Result<(Rehearsal, OpenClock), Fail> {
-        match auction.begin(clock) {
-            Ok(open) => Ok((auction, open)),
-            Err(_) => Err(Fail::new("not begun")),
-        }
+        let open = auction.begin(clock).map_err(|_| Fail::new("not begun"))?;
+        Ok((auction, open))
     }
 
     // An auction in round 1 with a maker of 15 years, unit 0, and a taker, unit 1.
@@ -71,21 +62,21 @@ mod tests {
         let mut taker = UNIT;
         taker.side = Side::Taker;
         taker.name = *b"TAKER   ";
-        assert!(rt; number(auction.enrol(&clock, &UNIT)) == 0);
-        assert!(rt; number(auction.enrol(&clock, &taker)) == 0);
+        assert_eq!(rt; refused(auction.enrol(&clock, &UNIT)), None);
+        assert_eq!(rt; refused(auction.enrol(&clock, &taker)), None);
         begin(auction, clock)
     }
 
     #[test]
     fn opening(rt: HostRuntime) -> Result<(), Fail> {
         let wanted = curve(rt.alloc())?;
-        assert_eq!(rt; number(check_open(0, 1, 0, &wanted)), 6);
-        assert_eq!(rt; number(check_open(1, 1, 0, &wanted)), 0);
-        assert_eq!(rt; number(check_open(9_000, 9_000, 9_000, &wanted)), 0);
-        assert_eq!(rt; number(check_open(9_001, 1, 0, &wanted)), 6);
-        assert_eq!(rt; number(check_open(9_000, 0, 0, &wanted)), 7);
-        assert_eq!(rt; number(check_open(9_000, 9_001, 0, &wanted)), 7);
-        assert_eq!(rt; number(check_open(9_000, 1, 9_001, &wanted)), 8);
+        assert_eq!(rt; refused(check_open(0, 1, 0, &wanted)), Some(6));
+        assert_eq!(rt; refused(check_open(1, 1, 0, &wanted)), None);
+        assert_eq!(rt; refused(check_open(9_000, 9_000, 9_000, &wanted)), None);
+        assert_eq!(rt; refused(check_open(9_001, 1, 0, &wanted)), Some(6));
+        assert_eq!(rt; refused(check_open(9_000, 0, 0, &wanted)), Some(7));
+        assert_eq!(rt; refused(check_open(9_000, 9_001, 0, &wanted)), Some(7));
+        assert_eq!(rt; refused(check_open(9_000, 1, 9_001, &wanted)), Some(8));
         Ok(())
     }
 
@@ -93,75 +84,90 @@ mod tests {
     fn another_auctions_clock(rt: HostRuntime) -> Result<(), Fail> {
         let (mut auction, clock) = open(rt.alloc(), 7)?;
         let (_, foreign) = open(rt.alloc(), 8)?;
-        assert_eq!(rt; number(auction.enrol(&foreign, &UNIT)), 9);
-        assert_eq!(rt; number(auction.enrol(&clock, &UNIT)), 0);
+        assert_eq!(rt; refused(auction.enrol(&foreign, &UNIT)), Some(9));
+        assert_eq!(rt; refused(auction.enrol(&clock, &UNIT)), None);
         Ok(())
+    }
+
+    // A maker that applies so.
+    fn maker(capacity: u32, class: u32, years: u32, name: Name) -> Application {
+        Application {
+            capacity,
+            class,
+            years,
+            name,
+            ..UNIT
+        }
+    }
+
+    // Enrols these units, and checks what each call answers.
+    fn check_enrols(
+        rt: &impl Abort,
+        auction: &mut Rehearsal,
+        clock: &EnrolmentClock,
+        cases: &[(Application, Option<u32>)],
+    ) {
+        for (unit, due) in cases {
+            assert_eq!(rt; refused(auction.enrol(clock, unit)), *due);
+        }
     }
 
     #[test]
     fn enrolling(rt: HostRuntime) -> Result<(), Fail> {
         let (mut auction, clock) = open(rt.alloc(), 7)?;
-        let mut unit = UNIT;
-        unit.capacity = 999;
-        assert_eq!(rt; number(auction.enrol(&clock, &unit)), 11);
-        unit.capacity = 5_000_001;
-        assert_eq!(rt; number(auction.enrol(&clock, &unit)), 11);
-        unit.capacity = 5_000_000;
-        unit.class = 4;
-        assert_eq!(rt; number(auction.enrol(&clock, &unit)), 13);
-        unit.class = 1;
-        unit.years = 4;
-        assert_eq!(rt; number(auction.enrol(&clock, &unit)), 13);
-        unit.years = 0;
-        assert_eq!(rt; number(auction.enrol(&clock, &unit)), 13);
-        unit.years = 3;
-        unit.name = *b"A B     ";
-        assert_eq!(rt; number(auction.enrol(&clock, &unit)), 14);
-        unit.name = *b"        ";
-        assert_eq!(rt; number(auction.enrol(&clock, &unit)), 14);
-        unit.name = *b"A-9     ";
-        assert_eq!(rt; number(auction.enrol(&clock, &unit)), 0);
-        assert_eq!(rt; number(auction.enrol(&clock, &unit)), 14);
+        let cases = [
+            (maker(999, 2, 15, UNIT.name), Some(11)),
+            (maker(5_000_001, 2, 15, UNIT.name), Some(11)),
+            (maker(5_000_000, 4, 15, UNIT.name), Some(13)),
+            (maker(5_000_000, 1, 4, UNIT.name), Some(13)),
+            (maker(5_000_000, 1, 0, UNIT.name), Some(13)),
+            (maker(5_000_000, 1, 3, *b"A B     "), Some(14)),
+            (maker(5_000_000, 1, 3, *b"        "), Some(14)),
+            (maker(5_000_000, 1, 3, *b"A-9     "), None),
+            (maker(5_000_000, 1, 3, *b"A-9     "), Some(14)),
+        ];
+        check_enrols(&rt, &mut auction, &clock, &cases);
         Ok(())
     }
 
     #[test]
     fn leaving(rt: HostRuntime) -> Result<(), Fail> {
         let (mut auction, clock) = begun(&rt, rt.alloc())?;
-        assert_eq!(rt; number(auction.exit(&clock, 2, 9_000)), 15);
-        assert_eq!(rt; number(auction.exit(&clock, 0, 8_000)), 17);
-        assert_eq!(rt; number(auction.exit(&clock, 0, 9_001)), 17);
-        assert_eq!(rt; number(auction.exit(&clock, 1, 8_501)), 18);
-        assert_eq!(rt; number(auction.exit(&clock, 1, 8_500)), 0);
-        assert_eq!(rt; number(auction.exit(&clock, 1, 8_500)), 16);
-        assert_eq!(rt; number(auction.exit(&clock, 0, 8_001)), 0);
-        assert_eq!(rt; number(auction.step_back(&clock)), 0);
-        assert_eq!(rt; number(auction.exit(&clock, 0, 9_000)), 0);
+        assert_eq!(rt; refused(auction.exit(&clock, 2, 9_000)), Some(15));
+        assert_eq!(rt; refused(auction.exit(&clock, 0, 8_000)), Some(17));
+        assert_eq!(rt; refused(auction.exit(&clock, 0, 9_001)), Some(17));
+        assert_eq!(rt; refused(auction.exit(&clock, 1, 8_501)), Some(18));
+        assert_eq!(rt; refused(auction.exit(&clock, 1, 8_500)), None);
+        assert_eq!(rt; refused(auction.exit(&clock, 1, 8_500)), Some(16));
+        assert_eq!(rt; refused(auction.exit(&clock, 0, 8_001)), None);
+        assert_eq!(rt; refused(auction.step_back(&clock)), None);
+        assert_eq!(rt; refused(auction.exit(&clock, 0, 9_000)), None);
         Ok(())
     }
 
     #[test]
     fn fewer_years_and_back(rt: HostRuntime) -> Result<(), Fail> {
         let (mut auction, clock) = begun(&rt, rt.alloc())?;
-        assert_eq!(rt; number(auction.step_back(&clock)), 21);
-        assert_eq!(rt; number(auction.years(&clock, 2, 1)), 15);
-        assert_eq!(rt; number(auction.years(&clock, 0, 0)), 19);
-        assert_eq!(rt; number(auction.years(&clock, 0, 15)), 19);
-        assert_eq!(rt; number(auction.years(&clock, 0, 10)), 0);
-        assert_eq!(rt; number(auction.years(&clock, 0, 5)), 0);
-        assert_eq!(rt; number(auction.step_back(&clock)), 0);
+        assert_eq!(rt; refused(auction.step_back(&clock)), Some(21));
+        assert_eq!(rt; refused(auction.years(&clock, 2, 1)), Some(15));
+        assert_eq!(rt; refused(auction.years(&clock, 0, 0)), Some(19));
+        assert_eq!(rt; refused(auction.years(&clock, 0, 15)), Some(19));
+        assert_eq!(rt; refused(auction.years(&clock, 0, 10)), None);
+        assert_eq!(rt; refused(auction.years(&clock, 0, 5)), None);
+        assert_eq!(rt; refused(auction.step_back(&clock)), None);
         // ten years again, not fifteen
-        assert_eq!(rt; number(auction.years(&clock, 0, 10)), 19);
-        assert_eq!(rt; number(auction.years(&clock, 0, 9)), 0);
+        assert_eq!(rt; refused(auction.years(&clock, 0, 10)), Some(19));
+        assert_eq!(rt; refused(auction.years(&clock, 0, 9)), None);
         Ok(())
     }
 
     // A name of its own for each number below 1,000.
     fn name_of(n: u32) -> Name {
+        let digit = |k: u32| b'0' + (k % 10) as u8;
         let mut name = *b"UNIT000 ";
-        name[4] = b'0' + (n / 100 % 10) as u8;
-        name[5] = b'0' + (n / 10 % 10) as u8;
-        name[6] = b'0' + (n % 10) as u8;
+        name[4] = digit(n / 100);
+        name[5] = digit(n / 10);
+        name[6] = digit(n);
         name
     }
 
@@ -173,43 +179,30 @@ mod tests {
         count: u32,
         capacity: u32,
     ) {
-        let mut unit = UNIT;
-        unit.capacity = capacity;
         for n in 0..count {
-            unit.name = name_of(n);
-            assert_eq!(rt; number(auction.enrol(clock, &unit)), 0);
+            let unit = maker(capacity, UNIT.class, UNIT.years, name_of(n));
+            check_enrols(rt, auction, clock, &[(unit, None)]);
         }
     }
 
-    // Makes Exits, each of a unit at a price, and checks what they answer.
-    fn check_exits(
+    // Makes a call for each case, of a unit with a price or with years, and checks what it answers.
+    fn check_calls<F: FnMut(usize, u32) -> Result<(), Refusal>>(
         rt: &impl Abort,
-        auction: &mut Rehearsal,
-        clock: &OpenClock,
-        cases: &[(usize, u32, u32)],
-    ) {
-        for (unit, price, due) in cases.iter().copied() {
-            assert_eq!(rt; number(auction.exit(clock, unit, price)), due);
-        }
-    }
-
-    // Makes Years, each of a unit for so many, and checks what they answer.
-    fn check_years(
-        rt: &impl Abort,
-        auction: &mut Rehearsal,
-        clock: &OpenClock,
-        cases: &[(usize, u32, u32)],
-    ) {
-        for (unit, years, due) in cases.iter().copied() {
-            assert_eq!(rt; number(auction.years(clock, unit, years)), due);
+        mut call: F,
+        cases: &[(usize, u32, Option<u32>)],
+    )
+        requires { F.IsAlwaysCallable call }
+    {
+        for (unit, number, due) in cases.iter().copied() {
+            assert_eq!(rt; refused(call(unit, number)), due);
         }
     }
 
     #[test]
     fn opening_at_the_highest_cap(rt: HostRuntime) -> Result<(), Fail> {
         let wanted = curve_up_to(rt.alloc(), 10_000)?;
-        assert_eq!(rt; number(check_open(10_000, 1, 0, &wanted)), 0);
-        assert_eq!(rt; number(check_open(10_001, 1, 0, &wanted)), 6);
+        assert_eq!(rt; refused(check_open(10_000, 1, 0, &wanted)), None);
+        assert_eq!(rt; refused(check_open(10_001, 1, 0, &wanted)), Some(6));
         Ok(())
     }
 
@@ -217,22 +210,15 @@ mod tests {
     fn least_capacity_and_most_years(rt: HostRuntime) -> Result<(), Fail> {
         let (mut auction, clock) = open(rt.alloc(), 7)?;
         let cases = [
-            (1_000, 1, 1, *b"B       ", 0),
-            (1_000, 2, 16, *b"C       ", 13),
-            (1_000, 2, 15, *b"C       ", 0),
-            (1_000, 0, 2, *b"D       ", 13),
-            (1_000, 0, 1, *b"D       ", 0),
-            (1_000, 3, 2, *b"E       ", 13),
-            (1_000, 3, 1, *b"E       ", 0),
+            (maker(1_000, 1, 1, *b"B       "), None),
+            (maker(1_000, 2, 16, *b"C       "), Some(13)),
+            (maker(1_000, 2, 15, *b"C       "), None),
+            (maker(1_000, 0, 2, *b"D       "), Some(13)),
+            (maker(1_000, 0, 1, *b"D       "), None),
+            (maker(1_000, 3, 2, *b"E       "), Some(13)),
+            (maker(1_000, 3, 1, *b"E       "), None),
         ];
-        let mut unit = UNIT;
-        for (capacity, class, years, name, due) in cases {
-            unit.capacity = capacity;
-            unit.class = class;
-            unit.years = years;
-            unit.name = name;
-            assert_eq!(rt; number(auction.enrol(&clock, &unit)), due);
-        }
+        check_enrols(&rt, &mut auction, &clock, &cases);
         Ok(())
     }
 
@@ -241,17 +227,12 @@ mod tests {
         let (mut auction, clock) = open(rt.alloc(), 7)?;
         enrol_many(&rt, &mut auction, &clock, 39, 5_000_000);
         let cases = [
-            (4_999_000, *b"A       ", 0),
-            (1_001, *b"B       ", 12),
-            (1_000, *b"B       ", 0),
-            (1_000, *b"C       ", 12),
+            (maker(4_999_000, 2, 15, *b"A       "), None),
+            (maker(1_001, 2, 15, *b"B       "), Some(12)),
+            (maker(1_000, 2, 15, *b"B       "), None),
+            (maker(1_000, 2, 15, *b"C       "), Some(12)),
         ];
-        let mut unit = UNIT;
-        for (capacity, name, due) in cases {
-            unit.capacity = capacity;
-            unit.name = name;
-            assert_eq!(rt; number(auction.enrol(&clock, &unit)), due);
-        }
+        check_enrols(&rt, &mut auction, &clock, &cases);
         Ok(())
     }
 
@@ -259,23 +240,27 @@ mod tests {
     fn as_many_as_there_is_room_for(rt: HostRuntime) -> Result<(), Fail> {
         let (mut auction, clock) = open(rt.alloc(), 7)?;
         enrol_many(&rt, &mut auction, &clock, 512, 1_000);
-        assert_eq!(rt; number(auction.enrol(&clock, &UNIT)), 10);
+        assert_eq!(rt; refused(auction.enrol(&clock, &UNIT)), Some(10));
         let (mut auction, clock) = begin(auction, clock)?;
         for unit in 0..512 {
-            check_years(&rt, &mut auction, &clock, &[(unit, 14, 0), (unit, 13, 0)]);
+            let years = |unit: usize, years: u32| auction.years(&clock, unit, years);
+            check_calls(&rt, years, &[(unit, 14, None), (unit, 13, None)]);
         }
         // with 1,024 entries a wrong price is still a wrong price
-        check_years(&rt, &mut auction, &clock, &[(0, 12, 20)]);
-        check_exits(&rt, &mut auction, &clock, &[(0, 9_001, 17), (0, 9_000, 20)]);
-        assert_eq!(rt; number(auction.step_back(&clock)), 0);
-        check_exits(&rt, &mut auction, &clock, &[(0, 9_000, 0), (1, 9_000, 20)]);
+        assert_eq!(rt; refused(auction.years(&clock, 0, 12)), Some(20));
+        let exit = |unit: usize, price: u32| auction.exit(&clock, unit, price);
+        check_calls(&rt, exit, &[(0, 9_001, Some(17)), (0, 9_000, Some(20))]);
+        assert_eq!(rt; refused(auction.step_back(&clock)), None);
+        let exit = |unit: usize, price: u32| auction.exit(&clock, unit, price);
+        check_calls(&rt, exit, &[(0, 9_000, None), (1, 9_000, Some(20))]);
         Ok(())
     }
 
     #[test]
     fn fewest_years(rt: HostRuntime) -> Result<(), Fail> {
         let (mut auction, clock) = begun(&rt, rt.alloc())?;
-        check_years(&rt, &mut auction, &clock, &[(0, 1, 0), (0, 1, 19)]);
+        let years = |unit: usize, years: u32| auction.years(&clock, unit, years);
+        check_calls(&rt, years, &[(0, 1, None), (0, 1, Some(19))]);
         Ok(())
     }
 
@@ -293,16 +278,11 @@ mod tests {
         auction: &Rehearsal,
         clock: &SettledClock,
         rows: &mut [RollRow],
-        due: u32,
-        written: u32,
+        due: Option<u32>,
+        written: usize,
     ) {
-        assert_eq!(rt; number(auction.roll(clock, rows)), due);
-        let mut count = 0u32;
-        for row in rows.iter() {
-            if row.unit != 9 {
-                count = count.saturating_add(1);
-            }
-        }
+        assert_eq!(rt; refused(auction.roll(clock, rows)), due);
+        let count = rows.iter().filter(|row| row.unit != UNWRITTEN.unit).count();
         assert_eq!(rt; count, written);
     }
 
@@ -313,11 +293,11 @@ mod tests {
             return Err(Fail::new("not settled"));
         };
         let mut rows = [UNWRITTEN; 1];
-        check_roll(&rt, &auction, &settled, &mut rows, 22, 0);
+        check_roll(&rt, &auction, &settled, &mut rows, Some(22), 0);
         let mut rows = [UNWRITTEN; 2];
-        check_roll(&rt, &auction, &settled, &mut rows, 0, 2);
+        check_roll(&rt, &auction, &settled, &mut rows, None, 2);
         let mut rows = [UNWRITTEN; 3];
-        check_roll(&rt, &auction, &settled, &mut rows, 0, 2);
+        check_roll(&rt, &auction, &settled, &mut rows, None, 2);
         Ok(())
     }
 }
