@@ -1,3 +1,3 @@
 pub mod Prices
 pub mod Ranks
-mod Room
+mod Turned

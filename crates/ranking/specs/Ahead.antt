@@ -27,14 +27,18 @@ rule_ahead a b =
     (lower_first a.random b.random
     (nat_lt a.unit b.unit)))
 
--- ties by name, then lower unit number
+-- by name, then lower unit number
+abbrev pub by_name : {X : Type 0} → (X → ℕ) → (X → List ℕ) → X → X → Bool
+by_name unit name a b = name_first (name a) (name b) (nat_lt (unit a) (unit b))
+
+-- ties by name
 abbrev pub name_ahead : Exit → Exit → Bool
-name_ahead a b = name_first a.name b.name (nat_lt a.unit b.unit)
+name_ahead = by_name (λ e. e.unit) (λ e. e.name)
 
 -- the exit ranking over a tie order: lower exit price, then as the tie order says
 abbrev pub price_ahead : (Exit → Exit → Bool) → Exit → Exit → Bool
 price_ahead ties a b = lower_first a.price b.price (ties a b)
 
--- the order of the roll: name, then lower unit number
+-- the order of the roll: by name
 abbrev pub roll_ahead : RollRow → RollRow → Bool
-roll_ahead a b = name_first a.name b.name (nat_lt a.unit b.unit)
+roll_ahead = by_name (λ row. row.unit) (λ row. row.name)

@@ -4,11 +4,11 @@ ghost use Rattle.std.specs.Prelude.{◌≡◌};
 ghost use Rattle.ranking.specs.Ahead.{price_ahead};
 ghost use Rattle.ranking.specs.Compares.{price_laws};
 
-use crate::names::Name;
+use crate::names::{Name, Named};
 use crate::orders::{Numbered, Order};
 
 // A unit that leaves the auction at a price.
-#[derive(Clone, Copy)]
+#[derive(Clone, Copy, Default, PartialEq, Eq, Debug)]
 pub struct Exit {
     pub unit: usize,
     pub price: u32,
@@ -26,6 +26,14 @@ impl Numbered for Exit {
     }
 }
 
+impl Named for Exit {
+    ghost name = { λ e. e.name };
+
+    fn name(&self) -> Name {
+        self.name
+    }
+}
+
 // The exit ranking: the lower exit price is ahead, and of equal prices the tie order decides.
 #[derive(Drop)]
 pub struct ExitRanking<O> {
@@ -40,9 +48,6 @@ impl<O: Order<Item = Exit>> Order for ExitRanking<O> {
     ghost laws = { λ s. price_laws _ (O.Order.laws s.ties) };
 
     fn ahead(&self, a: &Exit, b: &Exit) -> bool {
-        if a.price != b.price {
-            return a.price < b.price;
-        }
-        self.ties.ahead(a, b)
+        a.price < b.price || a.price == b.price && self.ties.ahead(a, b)
     }
 }

@@ -10,7 +10,7 @@ mod ties;
 
 pub use exits::{Exit, ExitRanking};
 pub use list::{insert, one_ranking, rank};
-pub use names::Name;
+pub use names::{ByName, Name, Named};
 pub use orders::{Numbered, Order};
 pub use roll::{RollOrder, RollRow};
-pub use ties::{ByName, ByRule};
+pub use ties::ByRule;

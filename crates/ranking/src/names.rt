@@ -1,29 +1,38 @@
-// Names, compared byte by byte.
+// Names, and the order by name.
 
-ghost use Rattle.std.specs.Prelude.{◌≡◌, ℕ, ◌<◌, ◌≤◌, ◌≢◌, slice_index};
-ghost use Rattle.ranking.specs.Ahead.{name_first};
+ghost use Rattle.std.specs.Prelude.{◌≡◌, ℕ, List};
+ghost use Rattle.ranking.specs.Ahead.{by_name};
+ghost use Rattle.ranking.specs.Compares.{by_name_laws};
+
+use crate::orders::{Numbered, Order};
+use std::marker::PhantomData;
 
 // The name of a unit: eight bytes, padded on the right.
 pub type Name = [u8; 8];
 
-// The first place where two names differ, or 8 where they are the same.
-fn first_difference(a: &Name, b: &Name) -> usize
-    ensures within { result ≤ 8 }
-    ensures before { (k : ℕ) → k < result → slice_index a.now k ≡ slice_index b.now k }
-    ensures found { result < 8 → slice_index a.now result ≢ slice_index b.now result }
-{
-    for i in 0..8 {
-        if a[i] != b[i] {
-            return i;
-        }
-    }
-    8
+// An item that carries a name beside its unit number.
+pub trait Named: Numbered {
+    ghost name: { Self → List ℕ };
+
+    fn name(&self) -> Name
+        ensures { result ≡ name self.now };
 }
 
-// Whether the name `a` is ahead of the name `b`, with `ties` as the answer for equal names.
-pub(crate) fn name_first(a: &Name, b: &Name, ties: bool) -> bool
-    ensures { result ≡ name_first a.now b.now ties }
-{
-    let i = first_difference(a, b);
-    if i < 8 { a[i] < b[i] } else { ties }
+// The order by name: the lower name is ahead, byte by byte, then the lower unit number.
+#[derive(Clone, Copy, Default)]
+pub struct ByName<T> {
+    of: PhantomData<T>,
+}
+
+impl<T: Named + Copy> Order for ByName<T> {
+    type Item = T;
+
+    ghost ahead = { λ _. by_name T.unit T.name };
+
+    ghost laws = { λ s. by_name_laws T.unit T.name };
+
+    #[tactic(auto, using(crate::specs::Compares::compared_name))]
+    fn ahead(&self, a: &T, b: &T) -> bool {
+        (a.name(), a.unit()) < (b.name(), b.unit())
+    }
 }

@@ -1,14 +1,12 @@
 // The rows of the roll, and their order.
 
 ghost use Rattle.std.specs.Prelude.{◌≡◌};
-ghost use Rattle.ranking.specs.Ahead.{roll_ahead};
-ghost use Rattle.ranking.specs.Compares.{roll_laws};
 
-use crate::names::{Name, name_first};
-use crate::orders::{Numbered, Order};
+use crate::names::{ByName, Name, Named};
+use crate::orders::Numbered;
 
 // What the roll says of an awarded unit.
-#[derive(Clone, Copy)]
+#[derive(Clone, Copy, Default, PartialEq, Eq, Debug)]
 pub struct RollRow {
     pub name: Name,
     pub capacity: u32,
@@ -24,18 +22,13 @@ impl Numbered for RollRow {
     }
 }
 
-// The order of the roll: the lower name is ahead, then the lower unit number.
-#[derive(Clone, Copy)]
-pub struct RollOrder;
+impl Named for RollRow {
+    ghost name = { λ r. r.name };
 
-impl Order for RollOrder {
-    type Item = RollRow;
-
-    ghost ahead = { λ _. roll_ahead };
-
-    ghost laws = { λ s. roll_laws };
-
-    fn ahead(&self, a: &RollRow, b: &RollRow) -> bool {
-        name_first(&a.name, &b.name, a.unit < b.unit)
+    fn name(&self) -> Name {
+        self.name
     }
 }
+
+// The order of the roll.
+pub type RollOrder = ByName<RollRow>;

@@ -1,13 +1,12 @@
-// The two tie orders over exits.
+// The tie order by rule.
 
 ghost use Rattle.std.specs.Prelude.{◌≡◌};
-ghost use Rattle.ranking.specs.Ahead.{rule_ahead, name_ahead};
+ghost use Rattle.ranking.specs.Ahead.{rule_ahead};
 ghost use Rattle.std.proofs.Common.{rules};
-ghost use Rattle.ranking.specs.Compares.{name_ties_laws};
 
 use crate::exits::Exit;
-use crate::names::name_first;
 use crate::orders::Order;
+use std::cmp::Reverse;
 
 // The larger capacity is ahead, then the fewer years, then the lower random number, then the lower unit number.
 #[derive(Clone, Copy)]
@@ -21,31 +20,7 @@ impl Order for ByRule {
     ghost laws = { Prim.search rules };
 
     fn ahead(&self, a: &Exit, b: &Exit) -> bool {
-        if a.capacity != b.capacity {
-            return a.capacity > b.capacity;
-        }
-        if a.years != b.years {
-            return a.years < b.years;
-        }
-        if a.random != b.random {
-            return a.random < b.random;
-        }
-        a.unit < b.unit
-    }
-}
-
-// The lower name is ahead, byte by byte, then the lower unit number.
-#[derive(Clone, Copy)]
-pub struct ByName;
-
-impl Order for ByName {
-    type Item = Exit;
-
-    ghost ahead = { λ _. name_ahead };
-
-    ghost laws = { λ s. name_ties_laws };
-
-    fn ahead(&self, a: &Exit, b: &Exit) -> bool {
-        name_first(&a.name, &b.name, a.unit < b.unit)
+        (Reverse(a.capacity), a.years, a.random, a.unit)
+            < (Reverse(b.capacity), b.years, b.random, b.unit)
     }
 }
