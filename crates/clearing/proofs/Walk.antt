@@ -1,5 +1,5 @@
 -- From place to place along the exits: the premise of what is left, and the last fit.
-use Rattle.std.proofs.Common.{◌≡◌, ℕ, suc, ◌+◌, ◌<◌, ◌≤◌, Bool, true, false, cond, List, ◌∷◌, length, get_or, drop, Some, None, sym, refl, ap, ◌∙◌, subst, suc-le-suc, zero-le, arith}
+use Rattle.std.proofs.Common.{◌≡◌, ℕ, suc, ◌+◌, ◌<◌, ◌≤◌, true, false, List, ◌∷◌, length, get_or, drop, sym, ap, ◌∙◌, subst, suc-le-suc, zero-le, arith}
 use Rattle.std.proofs.ByRecursion.{All-from_get_or}
 use Rattle.std.proofs.lemmas.List.{drop_more, at_drop_more, at_drop_all}
 use Rattle.std.proofs.lemmas.List.Sums.{sum_by-cons}
@@ -8,7 +8,7 @@ use Rattle.curve.specs.Meaning.{Meaning, ceiling}
 use Rattle.ranking.specs.declared.exits.Exit.{Exit}
 use Rattle.clearing.specs.declared.ground.Ground.TheVariants.{AllFit}
 use Rattle.clearing.specs.declared.place.Place.{Place}
-use Rattle.clearing.specs.Finding.{last_place, next_fit, stopped, at_margin, settled, settled_after}
+use Rattle.clearing.specs.Finding.{last_place, stopped, at_margin, settled, settled_after}
 use Rattle.clearing.specs.Places.{place_after, fits, exact}
 use Rattle.clearing.specs.Premise.{Clearable, Bounded}
 
@@ -48,34 +48,14 @@ pub record Walking (m : Meaning) (goal last : Place) (i : ℕ) (rest : List Exit
 pub walking_here : (m : Meaning) (goal last : Place) (xs : List Exit) (i : ℕ) (d : Exit) → i < length xs → Walking m goal last i (drop i xs) → Walking m goal last i (get_or xs i d ∷ drop (i + 1) xs)
 walking_here m goal last xs i d lt w = subst (λ (r : List Exit). Walking m goal last i r) (drop_more xs i d lt) w
 
-if_some : (b : Bool) (x y : Place) → Some y ≡ cond b (Some x) None → (b ≡ true) × (y ≡ x)
-if_some true x y e = (refl, cc)
-if_some false x y e = let z : ◌≡◌ {A = ℕ} 0 1 = cc in (absurd (omega arith), absurd (omega arith))
-
-if_none : (b : Bool) (x : Place) → None ≡ cond b (Some x) None → b ≡ false
-if_none true x e = let z : ◌≡◌ {A = ℕ} 0 1 = cc in absurd (omega arith)
-if_none false x e = refl
-
-pub walking_next : (m : Meaning) (goal last next : Place) (i : ℕ) (e : Exit) (es : List Exit) → Walking m goal last i (e ∷ es) → Some next ≡ next_fit m last e → Walking m goal next (i + 1) es
-walking_next m goal last next i e es w some =
-    let parts = if_some (fits m (place_after last e)) (place_after last e) next some in
-    subst (λ (at : Place). Walking m goal at (i + 1) es) (sym parts.1)
+pub walking_next : (m : Meaning) (goal last next : Place) (i : ℕ) (e : Exit) (es : List Exit) → Walking m goal last i (e ∷ es) → next ≡ place_after last e → fits m next ≡ true → Walking m goal next (i + 1) es
+walking_next m goal last next i e es w is met =
+    subst (λ (at : Place). Walking m goal at (i + 1) es) (sym is)
     (record {
       number_is = omega (arith, w.number_is);
-      bound_for = sym (cond-true _ _ _ parts.0) ∙ w.bound_for;
+      bound_for = sym (cond-true _ _ _ (rw is at met)) ∙ w.bound_for;
       clearable = next_clearable _ _ e es w.clearable;
     })
-
-pub walking_stop : (m : Meaning) (goal last : Place) (i : ℕ) (e : Exit) (es : List Exit) → Walking m goal last i (e ∷ es) → None ≡ next_fit m last e → last ≡ goal
-walking_stop m goal last i e es w none =
-    sym (cond-false _ _ _ (if_none (fits m (place_after last e)) (place_after last e) none)) ∙ w.bound_for
-
-pub walking_end : (m : Meaning) (goal last : Place) (i : ℕ) (xs : List Exit) → length xs ≤ i → Walking m goal last i (drop i xs) → last ≡ goal
-walking_end m goal last i xs le w = sym (at_drop_all (last_place m last) xs i le) ∙ w.bound_for
-
--- the place that the loop answers, with what is left behind it
-pub walking_left : (m : Meaning) (goal last : Place) (i : ℕ) (xs : List Exit) → Walking m goal last i (drop i xs) → Clearable last.price last.sum (drop last.number xs)
-walking_left m goal last i xs w = subst (λ (n : ℕ). Clearable last.price last.sum (drop n xs)) (sym w.number_is) w.clearable
 
 -- the settlement where the demand is not met exactly: with no exit left, and with one
 pub settled_end : (m : Meaning) (last : Place) (xs : List Exit) → exact m last ≡ false → length xs ≤ last.number → settled_after m last xs ≡ stopped AllFit last

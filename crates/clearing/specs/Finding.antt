@@ -11,10 +11,6 @@ use Rattle.clearing.specs.Grounds.{clears}
 use Rattle.clearing.specs.Margins.{weighed, sign_of, takes}
 use Rattle.clearing.specs.Places.{first_place, place_after, fits, exact}
 
--- the place behind one more exit, if that exit fits
-abbrev pub next_fit : Meaning → Place → Exit → Option Place
-next_fit m at e = cond (fits m (place_after at e)) (Some (place_after at e)) None
-
 -- the last place, from `at` on over the exits that follow it, up to which all exits fit
 abbrev pub last_place : Meaning → Place → List Exit → Place
 last_place m at [] = at

@@ -1,6 +1,7 @@
 -- What the clearing of a round rests on. Assumes nothing.
 use Rattle.std.specs.Prelude.{ℕ, ◌+◌, ◌*◌, ◌^◌, ◌<◌, ◌≤◌, List, sum_by}
-use Rattle.std.specs.List.{AllByRecursion}
+use Rattle.std.specs.Coded.{le_prop}
+use Rattle.std.specs.List.{AllByRecursion, AllByRecursion-prop}
 use Rattle.std.specs.List.Sorted.{IsNonDecreasingBy}
 use Rattle.curve.specs.Meaning.{ceiling}
 use Rattle.ranking.specs.declared.exits.Exit.{Exit}
@@ -19,6 +20,17 @@ pub record Clearable (floor s0 : ℕ) (exits : List Exit) : Type 0 where
   pub prices_rise : IsNonDecreasingBy (λ e. e.price) exits
   pub capacities : AllByRecursion (λ e. 1 ≤ e.capacity) exits
   pub room : s0 + sum_by (λ e. e.capacity) exits ≤ ceiling
+
+pub Clearable-prop : (floor s0 : ℕ) (exits : List Exit) → IsProp (Clearable floor s0 exits)
+Clearable-prop floor s0 exits x y i =
+    record {
+      floor_most = le_prop x.floor_most y.floor_most i;
+      prices_most = AllByRecursion-prop _ (λ e. le_prop) exits x.prices_most y.prices_most i;
+      prices_least = AllByRecursion-prop _ (λ e. le_prop) exits x.prices_least y.prices_least i;
+      prices_rise = λ j k d le lt. le_prop (x.prices_rise j k d le lt) (y.prices_rise j k d le lt) i;
+      capacities = AllByRecursion-prop _ (λ e. le_prop) exits x.capacities y.capacities i;
+      room = le_prop x.room y.room i;
+    }
 
 -- price and sum of a place are in their ranges, and so is what the sum costs
 abbrev pub Bounded : Place → Type 0

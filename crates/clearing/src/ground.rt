@@ -5,28 +5,22 @@ ghost use Rattle.clearing.specs.GroundNumbers.{ground_number};
 #[derive(Clone, Copy, PartialEq, Eq, Debug)]
 pub enum Ground {
     // what is in is exactly the demand at the floor
-    FloorExact,
+    FloorExact = 1,
     // with an exit it is exactly the demand at that exit's price
-    ExitExact,
+    ExitExact = 2,
     // every exit fits
-    AllFit,
+    AllFit = 3,
     // the first exit that does not fit is taken all the same
-    NextTaken,
+    NextTaken = 4,
     // the first exit that does not fit is left out
-    NextLeft,
+    NextLeft = 5,
 }
 
-impl Ground {
-    // The number of the ground, 1 to 5.
-    pub fn number(self) -> u32
-        ensures { result ≡ ground_number self }
-    {
-        match self {
-            Ground::FloorExact => 1,
-            Ground::ExitExact => 2,
-            Ground::AllFit => 3,
-            Ground::NextTaken => 4,
-            Ground::NextLeft => 5,
-        }
+// The number of the ground, 1 to 5.
+impl From<Ground> for u32 {
+    ghost from_gives = { λ g n. n ≡ ground_number g };
+
+    fn from(ground: Ground) -> u32 {
+        ground as u32
     }
 }

@@ -5,11 +5,13 @@ mod ground;
 mod last;
 mod margin;
 mod place;
+mod round;
 mod settlement;
 mod settling;
 
 pub use ground::Ground;
 pub use margin::takes_next;
 pub use place::Place;
+pub use round::Round;
 pub use settlement::Settlement;
 pub use settling::clear;
