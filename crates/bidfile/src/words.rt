@@ -14,12 +14,8 @@ fn word(file: &[u8], at: usize) -> u32
     ensures { result ≡ word_at file.now at }
 {
     let first = 4 * at;
-    u32::from_be_bytes([
-        file[first],
-        file[first + 1],
-        file[first + 2],
-        file[first + 3],
-    ])
+    let bytes: [u8; 4] = file[first..first + 4].try_into().unwrap();
+    u32::from_be_bytes(bytes)
 }
 
 // The top 4 bits of a word.
@@ -44,10 +40,5 @@ pub(crate) fn are_plain(file: &[u8], from: usize, to: usize) -> bool
     requires to_bound { to ≤ words file.now }
     ensures { result ≡ plain_words (to - from) file.now from }
 {
-    for at in from..to {
-        if kind(file, at) != 0 {
-            return false;
-        }
-    }
-    true
+    (from..to).all(|at| kind(file, at) == 0)
 }
