@@ -6,16 +6,14 @@ use Rattle.auction.specs.Sound.{price_above, exits_above, formers_above, book_ab
 use Rattle.auction.specs.State.{State, floor_of, terms_of}
 use Rattle.auction.specs.Steps.{open_questions}
 use Rattle.book.specs.Asked.{exit_questions}
-use Rattle.book.specs.Books.{Books, no_books, no_unit, new_unit, unit_at, out_at, for_years, with_unit, with_exit, with_years, undone, stepped_back, closed_book, enrolled_as, class_of}
+use Rattle.book.specs.Books.{Books, no_books, no_unit, new_unit, unit_at, out_at, for_years, with_unit, with_entry, with_exit, with_years, undone, stepped_back, closed_book, enrolled_as, class_of}
 use Rattle.book.specs.declared.class.Class.{Class}
 use Rattle.book.specs.declared.class.Class.TheVariants.{Existing}
 use Rattle.book.specs.declared.entry.Entry.{Entry}
-use Rattle.book.specs.declared.entry.Entry.TheVariants.{Exit, Years}
 use Rattle.book.specs.declared.terms.Application.{Application}
 use Rattle.book.specs.declared.terms.Terms.{Terms}
 use Rattle.book.specs.declared.unit.Standing.{Standing}
 use Rattle.book.specs.declared.unit.Unit.{Unit as Row}
-use Rattle.book.specs.Entries.{entry_former}
 use Rattle.book.proofs.ModelLaws.{with_standing}
 use Rattle.curve.specs.Meaning.{Meaning}
 use Rattle.book.proofs.Rules.{exit_allowed}
@@ -48,11 +46,11 @@ exits_at floor [] i h = refl
 exits_at floor (u ∷ us) zero h = (and_parts _ _ h).0
 exits_at floor (u ∷ us) (suc i) h = exits_at floor us i (and_parts _ _ h).1
 
-formers_more : (floor : ℕ) (e : Entry) (es : List Entry) → price_above floor (entry_former e) ≡ true → formers_above floor es ≡ true → formers_above floor (e ∷ es) ≡ true
+formers_more : (floor : ℕ) (e : Entry) (es : List Entry) → price_above floor e.former ≡ true → formers_above floor es ≡ true → formers_above floor (e ∷ es) ≡ true
 unfolding formers_above
 formers_more floor e es h k = and_from _ _ h k
 
-formers_parts : (floor : ℕ) (e : Entry) (es : List Entry) → formers_above floor (e ∷ es) ≡ true → (price_above floor (entry_former e) ≡ true) × (formers_above floor es ≡ true)
+formers_parts : (floor : ℕ) (e : Entry) (es : List Entry) → formers_above floor (e ∷ es) ≡ true → (price_above floor e.former ≡ true) × (formers_above floor es ≡ true)
 unfolding formers_above
 formers_parts floor e es h = and_parts _ _ h
 
@@ -74,25 +72,22 @@ above_with_unit floor b a h =
     let parts = above_parts floor b h in
     above_from floor _ (exits_more floor b.units (new_unit a) parts.0 (new_above floor a)) parts.1
 
-pub above_with_exit : (floor : ℕ) (b : Books) (i price : ℕ) → floor < price → book_above floor b ≡ true → book_above floor (with_exit b i price) ≡ true
-above_with_exit floor b i price lt h =
+above_with_entry : (floor : ℕ) (b : Books) (i : ℕ) (s : Standing) → price_above floor s ≡ true → book_above floor b ≡ true → book_above floor (with_entry b i s) ≡ true
+above_with_entry floor b i s k h =
     let parts = above_parts floor b h in
-    above_from floor _ (exits_set floor b.units i (out_at (unit_at b i).standing price) parts.0 (lt-ltb floor price lt))
-    (formers_more floor (Exit i (unit_at b i).standing) b.entries (exits_at floor b.units i parts.0) parts.1)
+    above_from floor _ (exits_set floor b.units i s parts.0 k) (formers_more floor _ b.entries (exits_at floor b.units i parts.0) parts.1)
+
+pub above_with_exit : (floor : ℕ) (b : Books) (i price : ℕ) → floor < price → book_above floor b ≡ true → book_above floor (with_exit b i price) ≡ true
+above_with_exit floor b i price lt = above_with_entry floor b i (out_at (unit_at b i).standing price) (lt-ltb floor price lt)
 
 pub above_with_years : (floor : ℕ) (b : Books) (i years : ℕ) → book_above floor b ≡ true → book_above floor (with_years b i years) ≡ true
 above_with_years floor b i years h =
-    let parts = above_parts floor b h in
-    let at : price_above floor (unit_at b i).standing ≡ true = exits_at floor b.units i parts.0 in
-    above_from floor _ (exits_set floor b.units i (for_years (unit_at b i).standing years) parts.0 at)
-    (formers_more floor (Years i (unit_at b i).standing) b.entries at parts.1)
+    above_with_entry floor b i (for_years (unit_at b i).standing years) (exits_at floor b.units i (above_parts floor b h).0) h
 
 above_undone : (floor : ℕ) (us : List Row) (es : List Entry) → exits_above floor us ≡ true → formers_above floor es ≡ true → book_above floor (undone us es) ≡ true
 above_undone floor us [] h k = above_from floor _ h k
-above_undone floor us (Exit i former ∷ es) h k =
-    let parts = formers_parts floor (Exit i former) es k in above_from floor _ (exits_set floor us i former h parts.0) parts.1
-above_undone floor us (Years i former ∷ es) h k =
-    let parts = formers_parts floor (Years i former) es k in above_from floor _ (exits_set floor us i former h parts.0) parts.1
+above_undone floor us (e ∷ es) h k =
+    let parts = formers_parts floor e es k in above_from floor _ (exits_set floor us e.unit e.former h parts.0) parts.1
 
 pub above_stepped_back : (floor : ℕ) (b : Books) → book_above floor b ≡ true → book_above floor (stepped_back b) ≡ true
 above_stepped_back floor b h = let parts = above_parts floor b h in above_undone floor b.units b.entries parts.0 parts.1
@@ -120,7 +115,7 @@ formers_lower : (floor low : ℕ) (es : List Entry) → low ≤ floor → former
 unfolding formers_above
 formers_lower floor low [] le h = refl
 formers_lower floor low (e ∷ es) le h =
-    let parts = and_parts _ _ h in and_from _ _ (price_lower floor low (entry_former e) le parts.0) (formers_lower floor low es le parts.1)
+    let parts = and_parts _ _ h in and_from _ _ (price_lower floor low e.former le parts.0) (formers_lower floor low es le parts.1)
 
 pub above_lower : (floor low : ℕ) (b : Books) → low ≤ floor → book_above floor b ≡ true → book_above low b ≡ true
 above_lower floor low b le h =

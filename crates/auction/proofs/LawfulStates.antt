@@ -20,7 +20,6 @@ use Rattle.auction.proofs.Trails.{Quiet, quiet_after, enrolling_quiet, shut_quie
 use Rattle.book.specs.Asked.{years_known}
 use Rattle.book.specs.declared.class.Class.{Class}
 use Rattle.book.specs.declared.entry.Entry.{Entry}
-use Rattle.book.specs.declared.entry.Entry.TheVariants.{Exit, Years}
 use Rattle.book.specs.declared.terms.Application.{Application}
 use Rattle.book.specs.declared.unit.Standing.{Standing}
 use Rattle.book.specs.declared.unit.Unit.{Unit as Row}
@@ -51,8 +50,7 @@ pub record LawfulEntry (us : List Row) (i : ℕ) (former : Standing) : Type 0 wh
   pub standing : LawfulStanding (get_or us i no_unit).enrolled.years former
 
 abbrev pub LawfulIn : List Row → Entry → Type 0
-LawfulIn us (Exit i former) = LawfulEntry us i former
-LawfulIn us (Years i former) = LawfulEntry us i former
+LawfulIn us e = LawfulEntry us e.unit e.former
 
 pub record LawfulBook (floor : ℕ) (b : Books) : Type 0 where
   pub count : length b.units ≤ 512
@@ -89,8 +87,7 @@ entry_stays us i st here j former h =
     }
 
 entries_stay : (us : List Row) (i : ℕ) (st : Standing) → i < length us → (e : Entry) → LawfulIn us e → LawfulIn (set us i (stood (get_or us i no_unit) st)) e
-entries_stay us i st here (Exit j former) h = entry_stays us i st here j former h
-entries_stay us i st here (Years j former) h = entry_stays us i st here j former h
+entries_stay us i st here e h = entry_stays us i st here e.unit e.former h
 
 -- the book with another standing of a unit, and other entries that were lawful
 stands_so : (floor : ℕ) (b : Books) (i : ℕ) (st : Standing) (es : List Entry) → LawfulBook floor b → i < length b.units → LawfulStanding (get_or b.units i no_unit).enrolled.years st → Above floor (stood (get_or b.units i no_unit) st) → length es ≤ 1024 → AllByRecursion (LawfulIn (set b.units i (stood (get_or b.units i no_unit) st))) es → LawfulBook floor (record { units = set b.units i (stood (get_or b.units i no_unit) st); entries = es })
@@ -127,8 +124,7 @@ restores floor us i former e es h entry =
 
 goes_back : (floor : ℕ) (us : List Row) (es : List Entry) → LawfulBook floor (record { units = us; entries = es }) → LawfulBook floor (undone us es)
 goes_back floor us [] h = h
-goes_back floor us (Exit i former ∷ es) h = restores floor us i former (Exit i former) es h h.entries.0
-goes_back floor us (Years i former ∷ es) h = restores floor us i former (Years i former) es h h.entries.0
+goes_back floor us (e ∷ es) h = restores floor us e.unit e.former e es h h.entries.0
 
 -- a unit just enrolled
 abbrev years_known_as : Application → Option Class → Bool
@@ -188,7 +184,7 @@ lawful_after s (exiting i price e) h =
       top_most = h.top_most;
       spread_least = h.spread_least;
       quiet = quiet_after s (exiting i price e) h.quiet;
-      book = entered (floor_of s) s.book i (out_at u.standing price) (Exit i u.standing) h.book e.here e.few (record { in_or_out = refl; some_years = was.standing.some_years; no_more = was.standing.no_more }) e.above (record { here = e.here; inside = e.inside; unpriced = unpriced_if_in u.enrolled.years u.standing was.standing e.inside; standing = was.standing });
+      book = entered (floor_of s) s.book i (out_at u.standing price) (record { unit = i; former = u.standing }) h.book e.here e.few (record { in_or_out = refl; some_years = was.standing.some_years; no_more = was.standing.no_more }) e.above (record { here = e.here; inside = e.inside; unpriced = unpriced_if_in u.enrolled.years u.standing was.standing e.inside; standing = was.standing });
       cleared = not_settled _ Open e.stage_is (λ d. cc);
     }
 lawful_after s (serving i years e) h =
@@ -200,7 +196,7 @@ lawful_after s (serving i years e) h =
       top_most = h.top_most;
       spread_least = h.spread_least;
       quiet = quiet_after s (serving i years e) h.quiet;
-      book = entered (floor_of s) s.book i (for_years u.standing years) (Years i u.standing) h.book e.here e.few (record { in_or_out = was.standing.in_or_out; some_years = e.least; no_more = omega arith }) was.above (record { here = e.here; inside = e.inside; unpriced = unpriced_if_in u.enrolled.years u.standing was.standing e.inside; standing = was.standing });
+      book = entered (floor_of s) s.book i (for_years u.standing years) (record { unit = i; former = u.standing }) h.book e.here e.few (record { in_or_out = was.standing.in_or_out; some_years = e.least; no_more = omega arith }) was.above (record { here = e.here; inside = e.inside; unpriced = unpriced_if_in u.enrolled.years u.standing was.standing e.inside; standing = was.standing });
       cleared = not_settled _ Open e.stage_is (λ d. cc);
     }
 lawful_after s (backing e) h =

@@ -1,6 +1,5 @@
 -- The exits of a round can be cleared in their ranking. Assumes nothing.
-use Rattle.std.proofs.Common.{◌≡◌, ℕ, ◌+◌, ◌-◌, ◌<◌, ◌≤◌, Bool, true, cond, ltb, leb, List, [], ◌∷◌, take, Some, None, sum_by, Option, sym, refl, ap, subst, arith}
-use native.Mathlib.Nat.{sub-zero}
+use Rattle.std.proofs.Common.{◌≡◌, ℕ, ◌+◌, ◌<◌, ◌≤◌, Bool, true, cond, ltb, leb, List, [], ◌∷◌, Some, None, sum_by, Option, refl, ap, subst, arith}
 use Rattle.std.specs.List.{AllByRecursion}
 use Rattle.std.proofs.lemmas.List.Sums.{sum_by-cons}
 use Rattle.std.proofs.lemmas.Bool.{and_parts, cond_both, leb-true, ltb-true}
@@ -98,9 +97,6 @@ round_clearable ties laws t b h fit =
     (exits_some t.«cap» 0 b.units keeps.units)
     (omega (arith, exits_sum t.«cap» 0 b.units, keeps.total))
 
--- the same of the front of a table that holds the ranking
-pub table_clearable : (ties : Exit → Exit → Bool) → Laws (λ (e : Exit). e.unit) ties → (t : Terms) (b : Books) (s0 len : ℕ) (table : List Exit) → lawful b ≡ true → Priceable t b → s0 ≡ capacity_inside b.units → take len table ≡ ranking_of (price_ahead ties) (exits_up_to t.«cap» 0 b.units) → Clearable t.floor s0 (take (len - 0) table)
-table_clearable ties laws t b s0 len table h fit sum front =
-    rw sub-zero
-    (subst (λ (es : List Exit). Clearable t.floor s0 es) (sym front)
-    (subst (λ (s : ℕ). Clearable t.floor s (ranking_of (price_ahead ties) (exits_up_to t.«cap» 0 b.units))) (sym sum) (round_clearable ties laws t b h fit)))
+-- the same of what was found and summed
+pub found_clearable : (ties : Exit → Exit → Bool) → Laws (λ (e : Exit). e.unit) ties → (t : Terms) (b : Books) (s0 : ℕ) (exits : List Exit) → lawful b ≡ true → Priceable t b → s0 ≡ capacity_inside b.units → exits ≡ ranking_of (price_ahead ties) (exits_up_to t.«cap» 0 b.units) → Clearable t.floor s0 exits
+found_clearable ties laws t b s0 exits h fit sum found = rw (sum, found) (round_clearable ties laws t b h fit)

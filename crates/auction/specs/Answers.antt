@@ -5,9 +5,9 @@ use Rattle.auction.specs.declared.calls.Answer.TheVariants.{Refused, ClosedShut,
 use Rattle.auction.specs.declared.calls.Figures.{Figures}
 use Rattle.auction.specs.declared.clocks.Closed.{Closed}
 use Rattle.auction.specs.declared.clocks.Closed.TheVariants.{Shut, Settled}
-use Rattle.auction.specs.declared.given_back.GivenBack.{GivenBack}
 use Rattle.auction.specs.declared.refusal.Refusal.{Refusal}
 use Rattle.auction.specs.Steps.{auction_question}
+use Rattle.curve.specs.declared.given_back.GivenBack.{GivenBack}
 
 -- the answer of a call that reads its clock
 abbrev pub answer : {A : Type 0} → (A → Answer) → Result A Refusal → Answer

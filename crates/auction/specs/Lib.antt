@@ -5,7 +5,6 @@ pub mod Awards
 pub mod Promise
 pub mod Sound
 pub mod Views
-pub mod Gathered
 pub mod Answers
 pub mod Endings
 pub mod Live

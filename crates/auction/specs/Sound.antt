@@ -7,7 +7,6 @@ use Rattle.book.specs.declared.entry.Entry.{Entry}
 use Rattle.book.specs.declared.terms.Terms.{Terms}
 use Rattle.book.specs.declared.unit.Standing.{Standing}
 use Rattle.book.specs.declared.unit.Unit.{Unit as Row}
-use Rattle.book.specs.Entries.{entry_former}
 
 -- the exit price, if there is one, is above the floor
 abbrev pub price_above : ℕ → Standing → Bool
@@ -20,7 +19,7 @@ exits_above floor (u ∷ us) = price_above floor u.standing && exits_above floor
 -- the same of how the units stood before this round's entries
 unfoldable pub formers_above : ℕ → List Entry → Bool
 formers_above floor [] = true
-formers_above floor (e ∷ es) = price_above floor (entry_former e) && formers_above floor es
+formers_above floor (e ∷ es) = price_above floor e.former && formers_above floor es
 
 unfoldable pub book_above : ℕ → Books → Bool
 book_above floor b = exits_above floor b.units && formers_above floor b.entries

@@ -2,7 +2,7 @@ use crate::clocks::Stamp;
 use book::Application;
 
 // A call that may change an auction, with its clock as plain numbers: the auction's own clock or any other of that kind.
-#[derive(Clone, Copy)]
+#[derive(Clone, Copy, PartialEq, Eq, Debug)]
 pub enum Call {
     Enrol(Stamp, Application),
     Begin(Stamp),
@@ -34,7 +34,7 @@ pub enum Answer {
 }
 
 // A call, and a place for its answer.
-#[derive(Clone, Copy)]
+#[derive(Clone, Copy, PartialEq, Eq, Debug)]
 pub struct Turn {
     pub call: Call,
     pub answer: Answer,

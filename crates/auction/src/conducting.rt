@@ -10,11 +10,10 @@ ghost use Rattle.curve.specs.Questions.{refused, first_no};
 
 use crate::auction::Auction;
 use crate::calls::Turn;
-use crate::given_back::GivenBack;
 use crate::live::Live;
 use crate::refusal::Refusal;
 use crate::setting::{Prices, Setting};
-use curve::Curve;
+use curve::{Curve, GivenBack};
 use ranking::{Exit, Order};
 
 // Makes the calls in order, and fills in what each answered.

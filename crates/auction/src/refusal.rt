@@ -25,7 +25,7 @@ impl From<Refusal> for u32 {
             Refusal::Spread => 7,
             Refusal::Threshold => 8,
             Refusal::Clock => 9,
-            Refusal::Book(refusal) => refusal.number(),
+            Refusal::Book(refusal) => u32::from(refusal),
             Refusal::Rows => 22,
         }
     }

@@ -7,9 +7,10 @@ ghost use Rattle.book.specs.Views.{books};
 
 use crate::auction::Auction;
 use crate::clocks::SettledClock;
-use crate::pricing::{MOST_EXITS, NO_EXIT, gather, price};
+use crate::pricing::{gather, price};
 use crate::refusal::Refusal;
-use book::{BookRefusal, Unit};
+use arrayvec::ArrayVec;
+use book::{BookRefusal, MOST_UNITS, Unit};
 use clearing::{Ground, Settlement};
 use curve::Curve;
 use ranking::{Exit, Numbered, Order};
@@ -43,28 +44,22 @@ impl<C: Curve, O: Order<Item = Exit>> Auction<C, O> {
         })
     }
 
-    // Gathers the awarded exits at the front of a lent table, and answers how many there are.
-    pub(super) fn awarded(&self, settlement: Settlement, exits: &mut [Exit]) -> usize
-        requires { length exits.old ≡ 512 }
-        ensures within { result ≤ 512 }
-        ensures front { take result exits.new ≡ awarded_exits (state C.Curve.meaning O.Order.ahead self.now) settlement }
+    // The exits that are awarded, in their ranking.
+    pub(super) fn awarded(&self, settlement: Settlement) -> ArrayVec<Exit, MOST_UNITS>
+        ensures { result.items ≡ awarded_exits (state C.Curve.meaning O.Order.ahead self.now) settlement }
     {
-        let len = gather(&self.order, &self.book, self.top, exits);
-        if settlement.stop < len {
-            settlement.stop
-        } else {
-            len
-        }
+        let mut exits = gather(&self.order, &self.book, self.top);
+        exits.truncate(settlement.stop);
+        exits
     }
 
     fn award_of(&self, settlement: Settlement, unit: usize) -> (u32, u32)
         requires { unit < length (books self.now.book).units }
         ensures { result ≡ award_of (state C.Curve.meaning O.Order.ahead self.now) settlement unit }
     {
-        let mut table = [NO_EXIT; MOST_EXITS];
-        let len = self.awarded(settlement, &mut table);
+        let awarded = self.awarded(settlement);
         let row = self.book.unit(unit);
-        if !is_awarded(&row, unit, &table[0..len]) {
+        if !is_awarded(&row, unit, awarded.as_slice()) {
             return (0, 0);
         }
         (row.enrolled.capacity, row.years_at(settlement.price))

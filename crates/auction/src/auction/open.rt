@@ -5,15 +5,11 @@ ghost use Rattle.curve.specs.Questions.{refused, first_no};
 
 use crate::auction::Auction;
 use crate::clocks::{Clock, EnrolmentClock, Stage, Stamp};
-use crate::given_back::GivenBack;
 use crate::refusal::Refusal;
 use crate::setting::{Prices, Setting};
 use book::Book;
-use curve::Curve;
+use curve::{Curve, GivenBack, MOST_PENCE};
 use ranking::{Exit, ExitRanking, Order};
-
-// The largest price, in pence per kW and year.
-const MOST_PENCE: u32 = 10_000;
 
 // The questions of Open.
 pub fn check_open<C: Curve>(prices: Prices, curve: &C) -> Result<(), Refusal>

@@ -11,10 +11,9 @@ ghost use Rattle.auction.specs.declared.calls.Answer.TheVariants.{Begun, Opened}
 use crate::auction::Auction;
 use crate::calls::Figures;
 use crate::clocks::{Clock, Closed, EnrolmentClock, OpenClock, ShutClock, Stage, Stamp};
-use crate::given_back::GivenBack;
 use crate::kinds::ClockKind;
 use crate::refusal::Refusal;
-use curve::Curve;
+use curve::{Curve, GivenBack};
 use ranking::{Exit, Order};
 
 impl<C: Curve, O: Order<Item = Exit>> Auction<C, O> {
