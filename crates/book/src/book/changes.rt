@@ -89,6 +89,7 @@ impl Book {
     }
 
     // The entries go on standing, out of step back's reach.
+    #[tactic(auto, unfolding(crate::specs::Lawful::lawful, crate::specs::Lawful::lawful_entries))]
     pub fn close(&mut self)
         ensures { books self.new ≡ closed_book (books self.old) }
     {
