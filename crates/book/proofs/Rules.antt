@@ -12,7 +12,7 @@ use Rattle.book.specs.declared.unit.Enrolment.{Enrolment}
 use Rattle.book.specs.declared.unit.Standing.{Standing}
 use Rattle.book.specs.declared.unit.Unit.{Unit as Row}
 use Rattle.book.specs.Asked.{named, is_a_maker, years_known, enrol_questions, exit_questions, years_questions}
-use Rattle.book.specs.Books.{Books, no_books, no_unit, unit_at, stood, out_at, for_years, class_of, most_years, enrolled_as, new_unit, with_unit, with_entry, with_exit, undone, stepped_back, closed_book, capacity_inside, total_enrolled}
+use Rattle.book.specs.Books.{Books, no_unit, unit_at, stood, out_at, for_years, class_of, most_years, enrolled_as, new_unit, with_unit, with_entry, with_exit, undone, stepped_back, capacity_inside, total_enrolled}
 use Rattle.book.specs.Lawful.{out_if_priced, lawful_standing, lawful_unit, lawful_units, distinct_names, stood_lawfully, lawful_entry, lawful_entries, lawful, can_leave}
 use Rattle.book.specs.Names.{same_name, well_formed}
 use Rattle.book.proofs.ModelLaws.{with_standing, enrolled_stays, total_stays, total_one_more, capacity_after_exit}
@@ -309,10 +309,6 @@ years_allowed b i years h =
 
 -- each operation keeps the rule
 
-pub lawful_none : lawful no_books ≡ true
-unfolding lawful lawful_units distinct_names lawful_entries
-lawful_none = refl
-
 -- a change of one unit's standing
 keeps_stood : (b : Books) (i : ℕ) (s : Standing) → Keeps b → lawful_standing (unit_at b i).enrolled.years s ≡ true → Keeps (record { units = with_standing b.units i s; entries = b.entries })
 keeps_stood b i s k stands =
@@ -382,16 +378,6 @@ lawful_stepped_back b h = cases b.entries h
     cases : (es : List Entry) → lawful (record { units = b.units; entries = es }) ≡ true → lawful (undone b.units es) ≡ true
     cases [] l = l
     cases (e ∷ es) l = lawful_undone b.units e es l
-
-no_entries : (us : List Row) → lawful_entries us [] ≡ true
-unfolding lawful_entries
-no_entries us = refl
-
-pub lawful_closed : (b : Books) → lawful b ≡ true → lawful (closed_book b) ≡ true
-lawful_closed b h =
-    let k = lawful_keeps b h in
-    keeps_lawful _
-    (record { few_units = k.few_units; few_entries = omega arith; total = k.total; units = k.units; names = k.names; entries = no_entries b.units })
 
 -- what is known of the unit that an application makes
 record Made (a : Application) (u : Row) : Type 0 where

@@ -14,6 +14,7 @@ use crate::unit::{Standing, Unit};
 use std::mem;
 
 impl Book {
+    #[tactic(auto, unfolding(crate::specs::Lawful::lawful, crate::specs::Lawful::lawful_units, crate::specs::Lawful::distinct_names, crate::specs::Lawful::lawful_entries))]
     pub fn new(room: Room) -> Book
         ensures { books result ≡ no_books }
     {
