@@ -14,7 +14,9 @@ use Rattle.auction.specs.Steps.{figures_of, opened}
 use Rattle.auction.specs.History.{enrols, opens, exits, serves, closes, application_of, floor_after, last_for, unit_said, said_unit}
 use Rattle.auction.proofs.Ledgers.{Ledger, no_ledger, noted, ledger, along}
 use Rattle.auction.proofs.Moves.{Move, refusing, enrolling, beginning, exiting, serving, backing, shutting, settling, going_on, after, heard, Enrols, Exits, Serves, Closes}
-use Rattle.auction.proofs.Rows.{kw, in_push, in_set, total_push, total_stood, new_unit_is, new_kw, new_in_kw, last_push, none_is}
+use Rattle.auction.proofs.Rows.{kw, new_unit_is, new_in_kw, last_push, none_is}
+use Rattle.book.proofs.ModelLaws.{capacity_one_more, capacity_changes, total_one_more, total_stays}
+use Rattle.book.proofs.Rules.{new_capacity}
 use Rattle.auction.proofs.Trails.{keeps, replayed, Replays}
 use Rattle.book.specs.declared.terms.Application.{Application}
 use Rattle.book.specs.declared.unit.Unit.{Unit as Row}
@@ -107,7 +109,7 @@ module _ (us : List Row) (gone years : List (ℕ × ℕ)) (applications : List A
       ap (λ (v : Row). v.standing.exit) said ∙ none_is o (sym (ap (λ (v : Row). v.standing.inside) said) ∙ inside)
 
   kw_said : (get_or us i no_unit).enrolled.capacity ≡ (application_of applications i).capacity
-  kw_said = ap kw (each i here) ∙ new_kw (application_of applications i)
+  kw_said = ap kw (each i here) ∙ new_capacity (application_of applications i)
 
 -- one more unit, while nothing else was done
 enrols_said : (us : List Row) (gone years : List (ℕ × ℕ)) (applications : List Application) → length us ≡ length applications → gone ≡ [] → years ≡ [] → ((n : ℕ) → n < length us → get_or us n no_unit ≡ said_unit gone years n (application_of applications n)) → (a : Application) (n : ℕ) → n < length (us ++ new_unit a ∷ []) → get_or (us ++ new_unit a ∷ []) n no_unit ≡ said_unit gone years n (application_of (applications ++ a ∷ []) n)
@@ -145,8 +147,8 @@ enrols_more start s l a h g =
     let more : length (us ++ new_unit a ∷ []) ≡ length us + 1 = length_push us (new_unit a) in
     let long : length (l.enrolled ++ a ∷ []) ≡ length l.enrolled + 1 = length_push l.enrolled a in
     let count = g.count in
-    let total-more : total_enrolled (us ++ new_unit a ∷ []) ≡ total_enrolled us + a.capacity = total_push us (new_unit a) ∙ ap (λ n. total_enrolled us + n) (new_kw a) in
-    let in-more : capacity_inside (us ++ new_unit a ∷ []) ≡ capacity_inside us + a.capacity = in_push us (new_unit a) ∙ ap (λ n. capacity_inside us + n) (new_in_kw a) in
+    let total-more : total_enrolled (us ++ new_unit a ∷ []) ≡ total_enrolled us + a.capacity = total_one_more us (new_unit a) ∙ ap (λ n. total_enrolled us + n) (new_capacity a) in
+    let in-more : capacity_inside (us ++ new_unit a ∷ []) ≡ capacity_inside us + a.capacity = capacity_one_more us (new_unit a) ∙ ap (λ n. capacity_inside us + n) (new_in_kw a) in
     let said_more : sum_by (λ x. x.capacity) (l.enrolled ++ a ∷ []) ≡ sum_by (λ x. x.capacity) l.enrolled + a.capacity = sum_by_push (λ x. x.capacity) l.enrolled a in
     let gone-now : sum_by (λ e. (application_of (l.enrolled ++ a ∷ []) e.0).capacity) l.gone ≡ 0 = ap (sum_by (λ e. (application_of (l.enrolled ++ a ∷ []) e.0).capacity)) none.0 in
     let gone-then : sum_by (λ e. (application_of l.enrolled e.0).capacity) l.gone ≡ 0 = ap (sum_by (λ e. (application_of l.enrolled e.0).capacity)) none.0 in
@@ -162,7 +164,7 @@ enrols_more start s l a h g =
       floors = g.floors;
       count = omega arith;
       each_unit = enrols_said us l.gone l.years l.enrolled g.count none.0 none.1 g.each_unit a;
-      large = All-push _ us (new_unit a) g.large (let e = new_kw a in let least = h.least in omega arith);
+      large = All-push _ us (new_unit a) g.large (let e = new_capacity a in let least = h.least in omega arith);
       total = omega arith;
       most = omega arith;
       accounts = omega arith;
@@ -205,9 +207,9 @@ exits_more start s l i price h g =
     let same_length : length (set us i u) ≡ length us = length-set us i u in
     let unpriced : (get_or us i no_unit).standing.exit ≡ None = in_unpriced us l.gone l.years l.enrolled g.each_unit i h.here h.inside in
     let kw-i : (get_or us i no_unit).enrolled.capacity ≡ (application_of l.enrolled i).capacity = kw_said us l.gone l.years l.enrolled g.each_unit i h.here in
-    let total-same : total_enrolled (set us i u) ≡ total_enrolled us = total_stood us i (out_at (get_or us i no_unit).standing price) h.here in
+    let total-same : total_enrolled (set us i u) ≡ total_enrolled us = total_stays us i (out_at (get_or us i no_unit).standing price) in
     let in-before : in_kw (get_or us i no_unit) ≡ (get_or us i no_unit).enrolled.capacity = ap (λ (o : Option ℕ). in_kw (stood (get_or us i no_unit) (record { years = 0; inside = false; exit = o }))) unpriced in
-    let in-now : capacity_inside (set us i u) + in_kw (get_or us i no_unit) ≡ capacity_inside us + 0 = in_set us i u h.here in
+    let in-now : capacity_inside (set us i u) + in_kw (get_or us i no_unit) ≡ capacity_inside us + 0 = capacity_changes us i (out_at (get_or us i no_unit).standing price) h.here in
     let gone-more : sum_by (λ e. (application_of l.enrolled e.0).capacity) (l.gone ++ (i, price) ∷ []) ≡ sum_by (λ e. (application_of l.enrolled e.0).capacity) l.gone + (application_of l.enrolled i).capacity = sum_by_push (λ e. (application_of l.enrolled e.0).capacity) l.gone (i, price) in
     let total = g.total in
     let count = g.count in
@@ -240,8 +242,8 @@ serves_more start s l i years h g =
     let u : Row = stood (get_or us i no_unit) (for_years (get_or us i no_unit).standing years) in
     let same_length : length (set us i u) ≡ length us = length-set us i u in
     let unpriced : (get_or us i no_unit).standing.exit ≡ None = in_unpriced us l.gone l.years l.enrolled g.each_unit i h.here h.inside in
-    let total-same : total_enrolled (set us i u) ≡ total_enrolled us = total_stood us i (for_years (get_or us i no_unit).standing years) h.here in
-    let in-now : capacity_inside (set us i u) + in_kw (get_or us i no_unit) ≡ capacity_inside us + in_kw (get_or us i no_unit) = in_set us i u h.here in
+    let total-same : total_enrolled (set us i u) ≡ total_enrolled us = total_stays us i (for_years (get_or us i no_unit).standing years) in
+    let in-now : capacity_inside (set us i u) + in_kw (get_or us i no_unit) ≡ capacity_inside us + in_kw (get_or us i no_unit) = capacity_changes us i (for_years (get_or us i no_unit).standing years) h.here in
     let total = g.total in
     let count = g.count in
     let most = g.most in

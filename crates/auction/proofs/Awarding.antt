@@ -1,17 +1,10 @@
--- What the code asks of a round to be priced and of a unit to be awarded. Assumes nothing.
-use Rattle.std.proofs.Common.{◌≡◌, ℕ, ◌-◌, ◌<◌, ◌≤◌, true, List, length, get_or, sym, ap, ◌∙◌, subst, arith}
+-- What the code asks of a unit to be awarded. Assumes nothing.
+use Rattle.std.proofs.Common.{◌≡◌, ℕ, ◌<◌, true, List, length, get_or, sym, ap, ◌∙◌, subst, arith}
 use Rattle.std.proofs.lemmas.List.{get_or_default}
-use Rattle.auction.specs.Sound.{book_above, Priceable}
-use Rattle.auction.proofs.Above.{above_parts}
 use Rattle.book.specs.Books.{Books, no_unit, unit_at}
 use Rattle.book.specs.declared.unit.Unit.{Unit as Row}
-use Rattle.book.specs.declared.terms.Terms.{Terms}
 use Rattle.book.specs.Lawful.{lawful, out_if_priced}
 use Rattle.book.proofs.Rules.{lawful_keeps, lawful_at, unit_stands}
-
-pub terms_priceable : (t : Terms) (top spread threshold : ℕ) (b : Books) → t ≡ record { «cap» = top; floor = top - spread; threshold = threshold } → top ≤ 10000 → book_above (top - spread) b ≡ true → Priceable t b
-terms_priceable t top spread threshold b e low above =
-    subst (λ (u : Terms). Priceable u b) (sym e) (record { low = omega arith; top = low; above = (above_parts (top - spread) b above).0 })
 
 -- a unit of a book is out exactly if it has an exit price
 pub unit_priced : (b : Books) (i : ℕ) → lawful b ≡ true → i < length b.units → out_if_priced (unit_at b i).standing ≡ true

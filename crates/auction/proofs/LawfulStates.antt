@@ -1,10 +1,10 @@
 -- What every call keeps of an auction, whatever it was before: its units and entries are lawful, and its numbers are in their
 -- ranges. An auction just opened is lawful, and a lawful auction is sound.
-use Rattle.std.proofs.Common.{◌≡◌, ℕ, ◌+◌, ◌-◌, ◌<◌, ◌≤◌, Bool, true, false, ◌&&◌, leb, List, [], ◌∷◌, ◌++◌, length, get_or, set, Some, None, Option, sym, refl, ap, ◌∙◌, subst, ⊎_elim, arith}
+use Rattle.std.proofs.Common.{◌≡◌, ℕ, ◌+◌, ◌-◌, ◌<◌, ◌≤◌, Bool, true, false, ◌&&◌, leb, List, [], ◌∷◌, ◌++◌, length, get_or, set, Some, None, Option, sym, refl, ◌∙◌, subst, arith}
 use Rattle.std.specs.List.{AllByRecursion}
 use Rattle.std.proofs.ByRecursion.{All-push, All-set, All-weaker, All-get_or}
-use Rattle.std.proofs.lemmas.List.{length-set, length_push, get_or-set_same, get_or-set_other}
-use Rattle.std.proofs.lemmas.Bool.{false≢true, cases_eq, and_parts, leb-true}
+use Rattle.std.proofs.lemmas.List.{length-set, length_push}
+use Rattle.std.proofs.lemmas.Bool.{false≢true, and_parts, leb-true}
 use Rattle.auction.specs.declared.calls.Call.{Call}
 use Rattle.auction.specs.declared.clocks.Stage.{Stage}
 use Rattle.auction.specs.declared.clocks.Stage.TheVariants.{Enrolling, Open, Shut, Settled}
@@ -14,7 +14,9 @@ use Rattle.auction.specs.Steps.{step, opened}
 use Rattle.auction.proofs.Agreement.{all_none}
 use Rattle.auction.proofs.Moves.{Move, refusing, enrolling, beginning, exiting, serving, backing, shutting, settling, going_on, after, moved}
 use Rattle.auction.proofs.RoundExits.{Above, AboveAt}
-use Rattle.auction.proofs.Rows.{total_push, total_stood, new_unit_is, new_kw, new_years, none_is}
+use Rattle.auction.proofs.Rows.{new_unit_is, new_years, none_is}
+use Rattle.book.proofs.ModelLaws.{enrolled_stays, total_one_more, total_stays}
+use Rattle.book.proofs.Rules.{new_capacity}
 use Rattle.auction.proofs.Soundness.{Sound}
 use Rattle.auction.proofs.Trails.{Quiet, quiet_after, enrolling_quiet, shut_quiet}
 use Rattle.book.specs.Asked.{years_known}
@@ -69,21 +71,13 @@ pub record Lawful (s : State) : Type 0 where
 
 -- a unit with another standing
 
-enrolled_stays : (us : List Row) (i : ℕ) (st : Standing) → i < length us → (j : ℕ) → (get_or (set us i (stood (get_or us i no_unit) st)) j no_unit).enrolled ≡ (get_or us j no_unit).enrolled
-enrolled_stays us i st here j =
-    let u : Row = stood (get_or us i no_unit) st in
-    ⊎_elim
-    (λ (e : j ≡ i). ap (λ (k : ℕ). (get_or (set us i u) k no_unit).enrolled) e ∙ ap (λ (v : Row). v.enrolled) (get_or-set_same us i u no_unit here) ∙ ap (λ (k : ℕ). (get_or us k no_unit).enrolled) (sym e))
-    (λ (ne : j ≡ i → ⊥). ap (λ (v : Row). v.enrolled) (get_or-set_other us i j u no_unit ne))
-    (cases_eq j i)
-
 entry_stays : (us : List Row) (i : ℕ) (st : Standing) → i < length us → (j : ℕ) (former : Standing) → LawfulEntry us j former → LawfulEntry (set us i (stood (get_or us i no_unit) st)) j former
 entry_stays us i st here j former h =
     record {
       here = rw length-set h.here;
       inside = h.inside;
       unpriced = h.unpriced;
-      standing = subst (λ e. LawfulStanding e.years former) (sym (enrolled_stays us i st here j)) h.standing;
+      standing = subst (λ e. LawfulStanding e.years former) (sym (enrolled_stays us i j st)) h.standing;
     }
 
 entries_stay : (us : List Row) (i : ℕ) (st : Standing) → i < length us → (e : Entry) → LawfulIn us e → LawfulIn (set us i (stood (get_or us i no_unit) st)) e
@@ -97,7 +91,7 @@ stands_so floor b i st es h here lawful above few entries =
     let was : LawfulUnit floor (get_or us i no_unit) = All-get_or (LawfulUnit floor) us i no_unit here h.units in
     let count = h.count in
     let most = h.most in
-    let same = total_stood us i st here in
+    let same = total_stays us i st in
     record {
       count = rw length-set (omega arith);
       units = All-set (LawfulUnit floor) us i u (record { least = was.least; most = was.most; standing = lawful; above = above }) h.units;
@@ -136,7 +130,7 @@ known_some a (Some c) h = leb-true 1 a.years (and_parts (leb 1 a.years) _ h).0
 
 new_lawful : (floor : ℕ) (a : Application) → 1000 ≤ a.capacity → a.capacity ≤ 5000000 → years_known a ≡ true → LawfulUnit floor (new_unit a)
 new_lawful floor a least most known =
-    let size = new_kw a in
+    let size = new_capacity a in
     let years = new_years a in
     let some = known_some a (class_of a.class) known in
     let said : LawfulUnit floor (unit_said a None None) = record { least = omega arith; most = omega arith; standing = record { in_or_out = refl; some_years = some; no_more = omega arith }; above = tt } in
@@ -159,8 +153,8 @@ lawful_after s refusing h = h
 lawful_after s (enrolling a e) h =
     let us : List Row = s.book.units in
     let more : length (us ++ new_unit a ∷ []) ≡ length us + 1 = length_push us (new_unit a) in
-    let total = total_push us (new_unit a) in
-    let size = new_kw a in
+    let total = total_one_more us (new_unit a) in
+    let size = new_capacity a in
     let few = e.few in
     let room = e.room in
     record {

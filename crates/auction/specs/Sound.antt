@@ -1,10 +1,9 @@
 -- What every auction keeps true: its exit prices lie above the floor, and a round can follow a shut one. Assumes nothing.
-use Rattle.std.specs.Prelude.{◌≡◌, ℕ, ◌≤◌, Bool, true, ◌&&◌, List, [], ◌∷◌, Some, None, nat_lt}
+use Rattle.std.specs.Prelude.{ℕ, Bool, true, ◌&&◌, List, [], ◌∷◌, Some, None, nat_lt}
 use Rattle.auction.specs.declared.clocks.Stage.{Stage}
 use Rattle.auction.specs.declared.clocks.Stage.TheVariants.{Enrolling, Open, Shut, Settled}
 use Rattle.book.specs.Books.{Books}
 use Rattle.book.specs.declared.entry.Entry.{Entry}
-use Rattle.book.specs.declared.terms.Terms.{Terms}
 use Rattle.book.specs.declared.unit.Standing.{Standing}
 use Rattle.book.specs.declared.unit.Unit.{Unit as Row}
 
@@ -30,9 +29,3 @@ shut_above Enrolling floor = true
 shut_above Open floor = true
 shut_above Shut floor = nat_lt 0 floor
 shut_above Settled floor = true
-
--- a round whose exits can be priced: prices are in their range, and those of the exits lie above the floor
-pub record Priceable (t : Terms) (b : Books) : Type 0 where
-  pub low : t.floor ≤ 10000
-  pub top : t.«cap» ≤ 10000
-  pub above : exits_above t.floor b.units ≡ true

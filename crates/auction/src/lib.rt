@@ -8,7 +8,6 @@ mod conducting;
 mod kinds;
 mod laws;
 mod live;
-mod pricing;
 mod ranked;
 mod refusal;
 mod setting;

@@ -1,17 +1,18 @@
 ghost use Rattle.std.specs.Prelude.{◌≡◌, ◌<◌, ◌≤◌, true, ◌||◌, length, take};
 ghost use Rattle.auction.specs.Awards.{among, awarded_exits, award_of};
 ghost use Rattle.auction.specs.Reading.{numbered, settlement_of, settlement_read, award_read};
+ghost use Rattle.auction.specs.State.{ranked_exits};
 ghost use Rattle.auction.specs.Views.{state};
 ghost use Rattle.book.specs.Lawful.{out_if_priced};
 ghost use Rattle.book.specs.Views.{books};
 
 use crate::auction::Auction;
 use crate::clocks::SettledClock;
-use crate::pricing::{gather, price};
+use crate::ranked::rank_items;
 use crate::refusal::Refusal;
 use arrayvec::ArrayVec;
 use book::{BookRefusal, MOST_UNITS, Unit};
-use clearing::{Ground, Settlement};
+use clearing::{Ground, Round, Settlement, clear};
 use curve::Curve;
 use ranking::{Exit, Numbered, Order};
 
@@ -34,11 +35,32 @@ pub(super) fn is_awarded(row: &Unit, unit: usize, awarded: &[Exit]) -> bool
 }
 
 impl<C: Curve, O: Order<Item = Exit>> Auction<C, O> {
+    // The exits of the round, in their ranking.
+    fn exits(&self) -> ArrayVec<Exit, MOST_UNITS>
+        ensures { result.items ≡ ranked_exits (state C.Curve.meaning O.Order.ahead self.now) }
+    {
+        let mut exits = ArrayVec::new();
+        for (i, unit) in self.book.units().iter().enumerate() {
+            if let Some(exit) = unit.exit_up_to(i, self.top) {
+                exits.push(exit);
+            }
+        }
+        rank_items(&self.order, &mut exits);
+        exits
+    }
+
+    // How the round settles if it is closed as things stand; if it does not clear, which no settled auction has, at the floor.
     pub(super) fn settled(&self) -> Settlement
         ensures { result ≡ settlement_of (state C.Curve.meaning O.Order.ahead self.now) }
     {
-        price(&self.book, self.terms(), &self.curve, &self.order).unwrap_or(Settlement {
-            price: self.floor(),
+        let exits = self.exits();
+        let round = Round {
+            floor: self.floor(),
+            capacity_in: self.book.capacity_in(),
+            exits: exits.as_slice(),
+        };
+        clear(&self.curve, round).unwrap_or(Settlement {
+            price: round.floor,
             ground: Ground::AllFit,
             stop: 0,
         })
@@ -48,7 +70,7 @@ impl<C: Curve, O: Order<Item = Exit>> Auction<C, O> {
     pub(super) fn awarded(&self, settlement: Settlement) -> ArrayVec<Exit, MOST_UNITS>
         ensures { result.items ≡ awarded_exits (state C.Curve.meaning O.Order.ahead self.now) settlement }
     {
-        let mut exits = gather(&self.order, &self.book, self.top);
+        let mut exits = self.exits();
         exits.truncate(settlement.stop);
         exits
     }
