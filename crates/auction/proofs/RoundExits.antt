@@ -4,10 +4,11 @@ use Rattle.std.specs.List.{AllByRecursion}
 use Rattle.std.specs.List.Sorted.{IsPermutation}
 use Rattle.std.proofs.ByRecursion.{All-weaker}
 use Rattle.std.proofs.lemmas.List.Sorted.{IsPermutation-refl, IsPermutation-trans, IsPermutation-cons, IsPermutation-swap}
-use Rattle.std.proofs.lemmas.List.Sums.{sum_by-cons}
-use Rattle.std.proofs.lemmas.Bool.{cond_both, cond-true, cond-false, leb-true, le-leb, lt-leb}
+use Rattle.std.proofs.lemmas.Bool.{cond_both, cond-true, cond-false, le-leb, lt-leb}
 use Rattle.book.specs.declared.unit.Unit.{Unit as Row}
-use Rattle.book.specs.Books.{no_unit, leaving, in_kw, capacity_inside, total_enrolled, exits_up_to}
+use Rattle.book.proofs.ExitLaws.{exits_by, exits_numbered, exits_are_out}
+use Rattle.book.proofs.ModelLaws.{total_in_and_out}
+use Rattle.book.specs.Books.{no_unit, leaving, capacity_inside, total_enrolled, exits_up_to}
 use Rattle.ranking.specs.declared.exits.Exit.{Exit}
 use Rattle.ranking.specs.Rankings.{Distinct}
 
@@ -23,34 +24,14 @@ AboveAt floor (Some price) = floor < price
 abbrev pub Above : ℕ → Row → Type 0
 Above floor u = AboveAt floor u.standing.exit
 
--- what holds of the exit of each unit that left at a price of at most the cap holds of the exits
-
-by_first : (top n : ℕ) (u : Row) (o : Option ℕ) (rest : List Exit) (P : Exit → Type 0) → ((price : ℕ) → o ≡ Some price → price ≤ top → P (leaving n u price)) → AllByRecursion P rest → AllByRecursion P (first_exit top n u o rest)
-by_first top n u None rest P one all = all
-by_first top n u (Some price) rest P one all =
-    cond_both (leb price top) (leaving n u price ∷ rest) rest (AllByRecursion P) (λ e. (one price refl (leb-true _ _ e), all)) (λ e. all)
-
-pub numbers_from : (top n : ℕ) (us : List Row) → AllByRecursion (λ e. n ≤ e.unit) (exits_up_to top n us)
-numbers_from top n [] = tt
-numbers_from top n (u ∷ us) =
-    by_first top n u u.standing.exit (exits_up_to top (n + 1) us) (λ e. n ≤ e.unit) (λ price e le. omega arith)
-    (All-weaker (λ e. n + 1 ≤ e.unit) (λ e. n ≤ e.unit) (λ e le. omega arith) (exits_up_to top (n + 1) us) (numbers_from top (n + 1) us))
-
-distinct_first : (top n : ℕ) (u : Row) (o : Option ℕ) (rest : List Exit) → AllByRecursion (λ e. n + 1 ≤ e.unit) rest → Distinct (λ e. e.unit) rest → Distinct (λ e. e.unit) (first_exit top n u o rest)
-distinct_first top n u None rest later d = d
-distinct_first top n u (Some price) rest later d =
-    cond_both (leb price top) (leaving n u price ∷ rest) rest (Distinct (λ e. e.unit))
-    (λ e. (All-weaker (λ x. n + 1 ≤ x.unit) (λ x. x.unit ≡ n → ⊥) (λ x le same. omega arith) rest later, d)) (λ e. d)
+-- what holds of the exits of a round
 
 pub exits_distinct : (top n : ℕ) (us : List Row) → Distinct (λ e. e.unit) (exits_up_to top n us)
 exits_distinct top n [] = tt
 exits_distinct top n (u ∷ us) =
-    distinct_first top n u u.standing.exit (exits_up_to top (n + 1) us) (numbers_from top (n + 1) us) (exits_distinct top (n + 1) us)
-
-pub exits_most : (top n : ℕ) (us : List Row) → AllByRecursion (λ e. e.price ≤ top) (exits_up_to top n us)
-exits_most top n [] = tt
-exits_most top n (u ∷ us) =
-    by_first top n u u.standing.exit (exits_up_to top (n + 1) us) (λ e. e.price ≤ top) (λ price e le. le) (exits_most top (n + 1) us)
+    let rest = exits_distinct top (n + 1) us in
+    exits_by top n u us (Distinct (λ e. e.unit)) rest
+    (λ price le e. (All-weaker (λ x. (n + 1 ≤ x.unit) × (x.unit < n + 1 + length us)) (λ x. x.unit ≡ n → ⊥) (λ x range same. let least = range.0 in omega arith) (exits_up_to top (n + 1) us) (exits_numbered top (n + 1) us), rest))
 
 above_some : (floor : ℕ) (o : Option ℕ) (price : ℕ) → o ≡ Some price → AboveAt floor o → floor < price
 above_some floor o price e h = subst (AboveAt floor) e h
@@ -58,45 +39,19 @@ above_some floor o price e h = subst (AboveAt floor) e h
 pub exits_least : (floor top n : ℕ) (us : List Row) → AllByRecursion (Above floor) us → AllByRecursion (λ e. floor ≤ e.price) (exits_up_to top n us)
 exits_least floor top n [] all = tt
 exits_least floor top n (u ∷ us) all =
-    by_first top n u u.standing.exit (exits_up_to top (n + 1) us) (λ e. floor ≤ e.price)
-    (λ price e le. let lt = above_some floor _ price e all.0 in omega arith) (exits_least floor top (n + 1) us all.1)
+    let rest = exits_least floor top (n + 1) us all.1 in
+    exits_by top n u us (AllByRecursion (λ e. floor ≤ e.price)) rest
+    (λ price le e. (let lt = above_some floor _ price e all.0 in omega arith, rest))
 
 pub exits_large : (top n : ℕ) (us : List Row) → AllByRecursion (λ u. 1000 ≤ u.enrolled.capacity) us → AllByRecursion (λ e. 1 ≤ e.capacity) (exits_up_to top n us)
 exits_large top n [] all = tt
 exits_large top n (u ∷ us) all =
-    by_first top n u u.standing.exit (exits_up_to top (n + 1) us) (λ e. 1 ≤ e.capacity)
-    (λ price e le. let k = all.0 in omega arith) (exits_large top (n + 1) us all.1)
+    let rest = exits_large top (n + 1) us all.1 in
+    exits_by top n u us (AllByRecursion (λ e. 1 ≤ e.capacity)) rest (λ price le e. (let k = all.0 in omega arith, rest))
 
 -- what is in and the exits are no more than what was enrolled
-
-abbrev in_kw_at : Row → Option ℕ → ℕ
-in_kw_at u o = elim o [ None ↦ u.enrolled.capacity | Some price ↦ 0 ]
-
-room_first : (top n : ℕ) (u : Row) (o : Option ℕ) (rest : List Exit) → in_kw_at u o + sum_by (λ e. e.capacity) (first_exit top n u o rest) ≤ u.enrolled.capacity + sum_by (λ e. e.capacity) rest
-room_first top n u None rest = omega arith
-room_first top n u (Some price) rest =
-    cond_both (leb price top) (leaving n u price ∷ rest) rest (λ (es : List Exit). 0 + sum_by (λ e. e.capacity) es ≤ u.enrolled.capacity + sum_by (λ e. e.capacity) rest)
-    (λ e. let s = sum_by-cons (λ e. e.capacity) (leaving n u price) rest in omega arith) (λ e. omega arith)
-
 pub exits_room : (top n : ℕ) (us : List Row) → capacity_inside us + sum_by (λ e. e.capacity) (exits_up_to top n us) ≤ total_enrolled us
-exits_room top n [] = omega arith
-exits_room top n (u ∷ us) =
-    let one : in_kw u + sum_by (λ e. e.capacity) (exits_up_to top n (u ∷ us)) ≤ u.enrolled.capacity + sum_by (λ e. e.capacity) (exits_up_to top (n + 1) us) = room_first top n u u.standing.exit (exits_up_to top (n + 1) us) in
-    let more = exits_room top (n + 1) us in
-    omega arith
-
--- no more exits than units
-few_first : (top n : ℕ) (u : Row) (o : Option ℕ) (rest : List Exit) → length (first_exit top n u o rest) ≤ length rest + 1
-few_first top n u None rest = omega arith
-few_first top n u (Some price) rest =
-    cond_both (leb price top) (leaving n u price ∷ rest) rest (λ (es : List Exit). length es ≤ length rest + 1) (λ e. omega arith) (λ e. omega arith)
-
-pub exits_few : (top n : ℕ) (us : List Row) → length (exits_up_to top n us) ≤ length us
-exits_few top n [] = omega arith
-exits_few top n (u ∷ us) =
-    let one : length (exits_up_to top n (u ∷ us)) ≤ length (exits_up_to top (n + 1) us) + 1 = few_first top n u u.standing.exit (exits_up_to top (n + 1) us) in
-    let more = exits_few top (n + 1) us in
-    omega arith
+exits_room top n us = let out = exits_are_out top n us in let all = total_in_and_out us in omega arith
 
 -- and back: what holds of the exits holds of the exit of each unit that left at a price of at most the cap
 
@@ -172,9 +127,8 @@ pub exits_true : (top n : ℕ) (us : List Row) (P : Exit → Type 0) → ((i pri
 exits_true top n [] P each = tt
 exits_true top n (u ∷ us) P each =
     let here : n + 0 ≡ n = omega arith in
-    by_first top n u u.standing.exit (exits_up_to top (n + 1) us) P
-    (λ price e le. subst (λ (j : ℕ). P (leaving j u price)) here (each 0 price (omega arith) e le))
-    (exits_true top (n + 1) us P
+    let rest = exits_true top (n + 1) us P
     (λ i price lt e le.
     let k : n + suc i ≡ n + 1 + i = omega arith in
-    subst (λ (j : ℕ). P (leaving j (get_or us i no_unit) price)) k (each (suc i) price (omega arith) e le)))
+    subst (λ (j : ℕ). P (leaving j (get_or us i no_unit) price)) k (each (suc i) price (omega arith) e le)) in
+    exits_by top n u us (AllByRecursion P) rest (λ price le e. (subst (λ (j : ℕ). P (leaving j u price)) here (each 0 price (omega arith) e le), rest))

@@ -11,7 +11,7 @@ use Rattle.auction.specs.Awards.{among, awarded_exits, is_awarded, award_of}
 use Rattle.auction.specs.History.{is_none}
 use Rattle.auction.specs.Promise.{SettlementOf}
 use Rattle.auction.specs.State.{State, floor_of, in_of, priced, ranked_exits}
-use Rattle.auction.proofs.RoundExits.{exits_most, exit_holds, exits_true}
+use Rattle.auction.proofs.RoundExits.{exit_holds, exits_true}
 use Rattle.auction.proofs.Soundness.{Sound, clearable, ranked_so}
 use Rattle.book.specs.declared.unit.Unit.{Unit as Row}
 use Rattle.book.specs.Books.{no_unit, years_at, leaving, exits_up_to}
@@ -22,6 +22,7 @@ use Rattle.clearing.specs.declared.settlement.Settlement.{Settlement}
 use Rattle.clearing.specs.Finding.{outcome_of}
 use Rattle.clearing.specs.Grounds.{Settles, Outcome}
 use Rattle.clearing.specs.Places.{price_at}
+use Rattle.book.proofs.ExitLaws.{exits_priced}
 use Rattle.clearing.specs.Premise.{Clearable}
 use Rattle.clearing.specs.Sound.{AwardsBelow}
 use Rattle.curve.proofs.DemandWords.{words}
@@ -99,7 +100,7 @@ module _ (s : State) (sound : Sound s) (order : OrderLaws (λ e. e.unit) s.ahead
   priced_holds = outcome_holds s.curve (words s.curve laws) (floor_of s) (in_of s) ranked ok
 
   ranked_most : AllByRecursion (λ e. e.price ≤ s.top) ranked
-  ranked_most = all_shuffled _ _ ranked (ranked_so s order).same_items (exits_most s.top 0 us)
+  ranked_most = all_shuffled _ _ ranked (ranked_so s order).same_items (exits_priced s.top 0 us)
 
   -- an exit in the ranking has the capacity and the years of its unit
   abbrev Whole : Exit → Type 0

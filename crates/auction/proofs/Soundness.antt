@@ -13,10 +13,11 @@ use Rattle.auction.specs.Steps.{opened}
 use Rattle.auction.proofs.Agreement.{Agrees, agrees_more, agrees_first, in_unpriced, begun_at, OutIn}
 use Rattle.auction.proofs.Ledgers.{Ledger, noted, ledger, along}
 use Rattle.auction.proofs.Moves.{Move, refusing, enrolling, beginning, exiting, serving, backing, shutting, settling, going_on, after, heard}
-use Rattle.auction.proofs.RoundExits.{Above, AboveAt, exits_distinct, exits_most, exits_least, exits_large, exits_room, exits_few, exits_push, exits_same, exits_none, exits_more}
+use Rattle.auction.proofs.RoundExits.{Above, AboveAt, exits_distinct, exits_least, exits_large, exits_room, exits_push, exits_same, exits_none, exits_more}
 use Rattle.auction.proofs.Rows.{new_unit_is}
 use Rattle.auction.proofs.Trails.{keeps, replayed, Replays}
 use Rattle.book.specs.declared.unit.Unit.{Unit as Row}
+use Rattle.book.proofs.ExitLaws.{exits_few, exits_priced}
 use Rattle.book.specs.Books.{no_unit, new_unit, stood, out_at, for_years, leaving, total_enrolled, exits_up_to}
 use Rattle.clearing.proofs.Premises.{clearable_ranked}
 use Rattle.clearing.specs.Premise.{Clearable, top_price}
@@ -89,7 +90,7 @@ clearable s sound laws =
     let most = sound.most in
     clearable_ranked (floor_of s) (in_of s) items (ranked_exits s) r.same_items (prices_rise s.ahead (ranked_exits s) r.in_order)
     (omega arith)
-    (All-weaker (λ e. e.price ≤ s.top) (λ e. e.price ≤ top_price) (λ e le. omega arith) items (exits_most s.top 0 us))
+    (All-weaker (λ e. e.price ≤ s.top) (λ e. e.price ≤ top_price) (λ e le. omega arith) items (exits_priced s.top 0 us))
     (exits_least (floor_of s) s.top 0 us sound.above_floor)
     (exits_large s.top 0 us sound.large)
     (omega arith)
