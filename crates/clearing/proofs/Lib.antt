@@ -1,6 +1,5 @@
 pub mod BuyersBest
 pub mod ClearedRounds
-pub mod Costs
 pub mod LastFits
 pub mod Outcomes
 pub mod Premises

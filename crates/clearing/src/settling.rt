@@ -32,14 +32,11 @@ fn settle<C: Curve>(curve: &C, last: Place, exits: &[Exit]) -> Settlement
     if curve.is_exactly(last.price, last.sum) {
         return Settlement::at(last, exact_ground(last));
     }
-    match exits.get(last.number) {
-        Some(exit) => Margin {
-            last,
-            next: last.after(exit),
-        }
-        .settle(curve),
-        None => Settlement::at(last, Ground::AllFit),
-    }
+    let Some(exit) = exits.get(last.number) else {
+        return Settlement::at(last, Ground::AllFit);
+    };
+    let next = last.after(exit);
+    Margin { last, next }.settle(curve)
 }
 
 // The outcome of a round: its settlement, or none if it does not clear.
