@@ -19,32 +19,22 @@ pub trait Curve {
         ensures weighed { Weighed (meaning self.now) from to sum result };
 
     // Whether a sum of capacities is within the demand at a price.
+    #[tactic(auto, unfolding(crate::specs::Words::within))]
     fn is_within(&self, price: u32, capacity: u32) -> bool
         ensures value { result ≡ within (meaning self.now) price capacity }
     {
-        covers(self.demand(price), capacity)
+        capacity <= self.demand(price)
     }
 
     // Whether a sum of capacities is exactly the demand at a price.
+    #[tactic(auto, unfolding(crate::specs::Words::exactly))]
     fn is_exactly(&self, price: u32, capacity: u32) -> bool
         ensures value { result ≡ exactly (meaning self.now) price capacity }
     {
-        meets(self.demand(price), capacity)
+        capacity == self.demand(price)
     }
 
     ghost keeps: { (c : Self) → Laws (meaning c) };
-}
-
-fn covers(demand: u32, capacity: u32) -> bool
-    ensures { result ≡ nat_le capacity demand }
-{
-    capacity <= demand
-}
-
-fn meets(demand: u32, capacity: u32) -> bool
-    ensures { result ≡ (capacity == demand) }
-{
-    capacity == demand
 }
 
 // What the layers above may use of `within` and `exactly`, for every curve that keeps the laws.

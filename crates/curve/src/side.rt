@@ -21,13 +21,6 @@ pub struct Side {
     pub end: u32,
 }
 
-fn rounded_up(over: u64, under: u64) -> u64
-    requires { 0 < under }
-    ensures { result ≡ up over under }
-{
-    over.div_ceil(under)
-}
-
 impl Side {
     pub(crate) fn between<S: Form>(corner: Corner, next: Corner) -> Side
         ensures { result ≡ the_side S.SHAPE corner next }
@@ -60,7 +53,7 @@ impl Side {
             return self.from;
         }
         let gone = u64::from(self.start - price) * u64::from(self.width());
-        let far = rounded_up(gone, u64::from(self.start - self.end));
+        let far = gone.div_ceil(u64::from(self.start - self.end));
         self.from + far as u32
     }
 
