@@ -2,11 +2,13 @@
 use Rattle.std.specs.Prelude.{◌≡◌, ℕ, ◌+◌, ◌-◌, ◌*◌, ◌<◌, ◌≤◌, List, [], ◌∷◌, nat_le}
 use Rattle.std.proofs.Common.{⊎_elim, ap, mul-le-mul_left, mul-le-mul_right, mul-pos, arith}
 use Rattle.std.proofs.lemmas.Bool.{cases_lt, cond_both, cond-true, cond-false, le-leb, lt-leb, leb-true, leb-false}
+use Rattle.std.specs.Int.{div_ceil}
+use Rattle.std.proofs.lemmas.Grind.{div_ceil_times}
 use Rattle.curve.specs.declared.side.Side.{Side}
-use Rattle.curve.specs.Outline.{up, width, crossing, reach, height, widths, column}
+use Rattle.curve.specs.Outline.{width, crossing, reach, height, widths, column}
 use Rattle.curve.specs.Falling.{Next, Falling}
 use Rattle.curve.specs.Reaches.{crossing_least, reach_least}
-use Rattle.curve.specs.SideNumbers.{up_enough, at_most_start}
+use Rattle.curve.specs.SideNumbers.{at_most_start}
 
 -- two heights of at most p times the width
 pair_most : (g h p w rest : ℕ) → g ≤ p * w → h ≤ p * w → (g + h) * rest ≤ p * (2 * (w * rest))
@@ -48,10 +50,10 @@ height_past q t s p x n lo past hi =
     let inside : p ≤ s.start → height s x ≤ p * width s =
     λ k.
     let some : 0 < s.start - s.end = omega arith in
-    let far : ℕ = up ((s.start - p) * width s) (s.start - s.end) in
+    let far : ℕ = div_ceil ((s.start - p) * width s) (s.start - s.end) in
     let on = cond-true (nat_le p s.start) (s.from + far) s.from (le-leb p s.start k) in
     let dist : far ≤ x - s.from = omega arith in
-    let enough = up_enough ((s.start - p) * width s) (s.start - s.end) some in
+    let enough = (div_ceil_times ((s.start - p) * width s) (s.start - s.end) some).0 in
     let m = mul-le-mul_left (s.start - s.end) dist in
     fallen s.start s.end p (width s) (x - s.from) (s.to - x) (omega arith) k (omega arith) (omega arith) in
     ⊎_elim above inside (cases_lt s.start p)

@@ -3,12 +3,14 @@
 use Rattle.std.specs.Prelude.{◌≡◌, ℕ, ◌+◌, ◌-◌, ◌*◌, ◌<◌, ◌≤◌, true, leb, List, [], ◌∷◌, nat_le, refl}
 use Rattle.std.proofs.Common.{⊎_elim, ap, sym, subst, mul-le-mul_right, mul-lt-mul_of_pos_right, mul-pos, arith}
 use Rattle.std.proofs.lemmas.Bool.{cases_lt, cond_both, cond-true, cond-false, le-leb, lt-leb, leb-true, leb-false}
+use Rattle.std.specs.Int.{div_ceil}
+use Rattle.std.proofs.lemmas.Grind.{div_ceil_times}
 use Rattle.curve.specs.declared.side.Side.{Side}
-use Rattle.curve.specs.Outline.{Fraction, up, width, side_price, price, crossing, reach}
+use Rattle.curve.specs.Outline.{Fraction, width, side_price, price, crossing, reach}
 use Rattle.curve.specs.Rules.{Farthest}
 use Rattle.curve.specs.Falling.{Next, Falling}
 use Rattle.curve.specs.Reaches.{crossing_least, reach_least}
-use Rattle.curve.specs.SideNumbers.{up_enough, up_least, not_beyond, still_above, at_most_start, none_above, price_at_crossing}
+use Rattle.curve.specs.SideNumbers.{up_least, not_beyond, still_above, at_most_start, none_above, price_at_crossing}
 
 -- the two parts of a side that a place cuts it into make up its width
 parts_add : (q t : ℕ) (s : Side) (n d : ℕ) → Next q t s → s.from * d ≤ n → n ≤ s.to * d
@@ -29,13 +31,13 @@ side_far q t s p n d x lo some low high h =
     let b : ℕ = s.to * d - n in
     let sum = parts_add q t s n d x low high in
     let clear : p * (a + b) ≤ s.start * b + s.end * a = subst (λ (k : ℕ). p * k ≤ s.start * b + s.end * a) sum h in
-    cond_both (nat_le p s.start) (s.from + up ((s.start - p) * width s) (s.start - s.end)) s.from (λ (r : ℕ). n ≤ r * d)
+    cond_both (nat_le p s.start) (s.from + div_ceil ((s.start - p) * width s) (s.start - s.end)) s.from (λ (r : ℕ). n ≤ r * d)
     (λ e.
     let hi = leb-true p s.start e in
     let falls : 0 < s.start - s.end = omega arith in
-    let far : ℕ = up ((s.start - p) * width s) (s.start - s.end) in
+    let far : ℕ = div_ceil ((s.start - p) * width s) (s.start - s.end) in
     let left = not_beyond (s.start - s.end) (s.start - p) (p - s.end) a b (width s) d far falls (omega arith)
-    (still_above s.start s.end p a b (omega arith) hi clear) sum (up_enough ((s.start - p) * width s) (s.start - s.end) falls) in
+    (still_above s.start s.end p a b (omega arith) hi clear) sum (div_ceil_times ((s.start - p) * width s) (s.start - s.end) falls).0 in
     omega arith)
     (λ e.
     let hi = leb-false p s.start e in
@@ -115,7 +117,7 @@ to_the_end q t s ss p r x high covers =
 
 -- and up to the exact crossing of a side along which the price comes down to p
 to_the_crossing : (q t : ℕ) (s : Side) (ss : List Side) (p r : ℕ) → Next q t s → s.end < p → p ≤ s.start → q ≤ r
-    → Covers q (s ∷ ss) p r → s.from + up ((s.start - p) * width s) (s.start - s.end) ≤ r
+    → Covers q (s ∷ ss) p r → s.from + div_ceil ((s.start - p) * width s) (s.start - s.end) ≤ r
 to_the_crossing q t s ss p r x lo hi base covers =
     let i : ℕ = s.start - p in
     let j : ℕ = p - s.end in
@@ -127,9 +129,9 @@ to_the_crossing q t s ss p r x lo hi base covers =
     let long : s.to ≡ s.from + w = omega arith in
     let to-m = ap (λ (k : ℕ). k * m) long in
     let w-m = ap (λ (k : ℕ). w * k) sum in
-    let enough : i * w ≤ (r - s.from) * m → s.from + up (i * w) m ≤ r = λ k. let u = up_least (i * w) m (r - s.from) some k in omega arith in
-    let at_once : i * w < 1 → s.from + up (i * w) m ≤ r = λ k. enough (omega arith) in
-    let further : 1 ≤ i * w → s.from + up (i * w) m ≤ r =
+    let enough : i * w ≤ (r - s.from) * m → s.from + div_ceil (i * w) m ≤ r = λ k. let u = up_least (i * w) m (r - s.from) some k in omega arith in
+    let at_once : i * w < 1 → s.from + div_ceil (i * w) m ≤ r = λ k. enough (omega arith) in
+    let further : 1 ≤ i * w → s.from + div_ceil (i * w) m ≤ r =
     λ k.
     let on : leb n (s.to * m) ≡ true = le-leb n (s.to * m) (omega arith) in
     let before : s.to * m - n ≡ j * w = omega arith in
@@ -159,7 +161,7 @@ reach_covered q t (s ∷ ss) p r f base covers =
     (subst (AtLeast p) (sym (cond-false (nat_le n (s.to * d)) (side_price s n d) (price ss n d) (lt-leb n (s.to * d) past))) dear)))
     (λ e.
     let lo = leb-false p s.end e in
-    cond_both (nat_le p s.start) (s.from + up ((s.start - p) * width s) (s.start - s.end)) s.from (λ (k : ℕ). k ≤ r)
+    cond_both (nat_le p s.start) (s.from + div_ceil ((s.start - p) * width s) (s.start - s.end)) s.from (λ (k : ℕ). k ≤ r)
     (λ h. to_the_crossing q t s ss p r x lo (leb-true p s.start h) base covers) (λ h. omega arith))
 
 pub farthest : (t : ℕ) (ss : List Side) (p : ℕ) → Falling 0 t ss → 1 ≤ p → Farthest (price ss) p (reach 0 ss p)

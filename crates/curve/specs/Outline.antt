@@ -1,6 +1,7 @@
 -- The curves that are built from corners: their sides, the price at each place, the demand and the running area.
 -- Assumes nothing.
-use Rattle.std.specs.Prelude.{ℕ, zero, suc, ◌+◌, ◌-◌, ◌*◌, ◌/◌, ◌%◌, ◌<◌, ◌≤◌, min, cond, List, [], ◌∷◌, nat_le}
+use Rattle.std.specs.Prelude.{ℕ, zero, suc, ◌+◌, ◌-◌, ◌*◌, ◌<◌, ◌≤◌, cond, List, [], ◌∷◌, nat_le}
+use Rattle.std.specs.Int.{div_ceil}
 use Rattle.curve.specs.declared.corner.Corner.{Corner}
 use Rattle.curve.specs.declared.side.Shape.{Shape}
 use Rattle.curve.specs.declared.side.Shape.TheVariants.{Steps, Lines}
@@ -41,13 +42,9 @@ abbrev pub price : List Side → ℕ → ℕ → Fraction
 price [] n d = record { over = 0; under = 1 }
 price (s ∷ ss) n d = cond (nat_le n (s.to * d)) (side_price s n d) (price ss n d)
 
--- x / y, rounded up
-abbrev pub up : ℕ → ℕ → ℕ
-up x y = x / y + min 1 (x % y)
-
 -- the place on a side from which on the price is below p, rounded up
 abbrev pub crossing : Side → ℕ → ℕ
-crossing s p = cond (nat_le p s.start) (s.from + up ((s.start - p) * width s) (s.start - s.end)) s.from
+crossing s p = cond (nat_le p s.start) (s.from + div_ceil ((s.start - p) * width s) (s.start - s.end)) s.from
 
 -- the same over sides that follow the place q
 abbrev pub reach : ℕ → List Side → ℕ → ℕ

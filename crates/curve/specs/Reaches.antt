@@ -3,12 +3,13 @@ use Rattle.std.specs.Prelude.{◌≡◌, ℕ, ◌-◌, ◌*◌, ◌<◌, ◌≤�
 use Rattle.std.proofs.Common.{ap, sym, subst, ◌∙◌, arith}
 use Rattle.std.proofs.lemmas.Bool.{cond_both, cond-true, cond-false, le-leb, lt-leb}
 use Rattle.std.proofs.lemmas.Bool.Decides.{nat_tests}
+use Rattle.std.specs.Int.{div_ceil}
 use Rattle.curve.specs.declared.corner.Corner.{Corner}
 use Rattle.curve.specs.declared.side.Shape.{Shape}
 use Rattle.curve.specs.declared.side.Side.{Side}
 use Rattle.curve.specs.Corners.{accepted}
 use Rattle.curve.specs.Meaning.{ceiling}
-use Rattle.curve.specs.Outline.{side, sides_from, origin, sides, up, width, crossing, reach, Sound}
+use Rattle.curve.specs.Outline.{side, sides_from, origin, sides, width, crossing, reach, Sound}
 use Rattle.curve.specs.Falling.{Next, Falling, Walking, walking_start, walking_next, walking_sound, side_ends, origin_zero}
 use Rattle.curve.specs.SideNumbers.{crosses_inside, up_falls}
 
@@ -17,7 +18,7 @@ crossing_least s p = grind (arith, nat_tests)
 
 pub crossing_most : (q t : ℕ) (s : Side) (p : ℕ) → Next q t s → s.end < p → crossing s p ≤ s.to
 crossing_most q t s p n lo =
-    let i : p ≤ s.start → up ((s.start - p) * width s) (s.start - s.end) ≤ width s =
+    let i : p ≤ s.start → div_ceil ((s.start - p) * width s) (s.start - s.end) ≤ width s =
     crosses_inside s.start s.end (width s) p lo in
     grind (arith, nat_tests)
 
@@ -40,7 +41,7 @@ reach_most q t (s ∷ ss) p f h =
 
 crossing_falls : (s : Side) (p r : ℕ) → s.end < p → p ≤ r → crossing s r ≤ crossing s p
 crossing_falls s p r lo le =
-    let i : r ≤ s.start → up ((s.start - r) * width s) (s.start - s.end) ≤ up ((s.start - p) * width s) (s.start - s.end) =
+    let i : r ≤ s.start → div_ceil ((s.start - r) * width s) (s.start - s.end) ≤ div_ceil ((s.start - p) * width s) (s.start - s.end) =
     λ h. up_falls s.start s.end (width s) p r lo le h in
     grind (arith, nat_tests)
 

@@ -1,49 +1,31 @@
 -- Arithmetic of one side, over plain numbers: u and v are its prices at the start and the end, w its width, a the
 -- distance of a place from its start.
-use Rattle.std.specs.Prelude.{◌≡◌, ℕ, ◌+◌, ◌-◌, ◌*◌, ◌/◌, ◌%◌, ◌<◌, ◌≤◌, min}
-use Rattle.std.proofs.Common.{⊎_elim, ap, div-add-mod', mod-lt, mul-le-mul_right, mul-lt-mul_of_pos_right, le_of_mul-le-mul_right, arith}
+use Rattle.std.specs.Prelude.{◌≡◌, ℕ, ◌+◌, ◌-◌, ◌*◌, ◌<◌, ◌≤◌}
+use Rattle.std.proofs.Common.{ap, mul-le-mul_right, mul-lt-mul_of_pos_right, lt_of_mul-lt-mul_right, arith}
 use Rattle.std.proofs.Math.Nat.{le_of_mul-le-mul_left}
-use Rattle.std.proofs.lemmas.Bool.{cases_lt}
-use Rattle.curve.specs.Outline.{up}
+use Rattle.std.specs.Int.{div_ceil}
+use Rattle.std.proofs.lemmas.Grind.{div_ceil_times}
 
--- a quotient that is rounded up is enough
-pub up_enough : (x y : ℕ) → 0 < y → x ≤ up x y * y
-up_enough x y h =
-    let e = div-add-mod' x y in
-    let less = mod-lt x h in
-    let none : x % y < 1 → x ≤ up x y * y = λ z. omega arith in
-    let one : 1 ≤ x % y → x ≤ up x y * y =
-    λ z. let m : min 1 (x % y) ≡ 1 = omega arith in let k = ap (λ (t : ℕ). (x / y + t) * y) m in omega arith in
-    ⊎_elim none one (cases_lt (x % y) 1)
-
--- and no more than enough
-pub up_least : (x y z : ℕ) → 0 < y → x ≤ z * y → up x y ≤ z
+-- a quotient that is rounded up is no more than enough
+pub up_least : (x y z : ℕ) → 0 < y → x ≤ z * y → div_ceil x y ≤ z
 up_least x y z h le =
-    let e = div-add-mod' x y in
-    let over : z < up x y → up x y ≤ z =
-    λ k.
-    let none : x % y < 1 → up x y ≤ z = λ q.
-    let m : min 1 (x % y) ≡ 0 = omega arith in
-    let k = ap (λ (t : ℕ). (x / y + t) * y) m in
-    le_of_mul-le-mul_right {k = y} (omega arith) h in
-    let one : 1 ≤ x % y → up x y ≤ z =
-    λ q. let s : z ≤ x / y = omega arith in let m = mul-le-mul_right y s in omega arith in
-    ⊎_elim none one (cases_lt (x % y) 1) in
-    ⊎_elim over (λ k. k) (cases_lt z (up x y))
+    let b = (div_ceil_times x y h).1 in
+    let s : div_ceil x y < z + 1 = lt_of_mul-lt-mul_right y (omega arith) in
+    omega arith
 
 -- the place where the price has come down to p lies on the side
-pub crosses_inside : (u v w p : ℕ) → v < p → p ≤ u → up ((u - p) * w) (u - v) ≤ w
+pub crosses_inside : (u v w p : ℕ) → v < p → p ≤ u → div_ceil ((u - p) * w) (u - v) ≤ w
 crosses_inside u v w p lo hi =
     let le : u - p ≤ u - v = omega arith in let m2 = mul-le-mul_right w le in up_least ((u - p) * w) (u - v) w (omega arith) (omega arith)
 
 -- a higher price is met no later
-pub up_falls : (u v w p r : ℕ) → v < p → p ≤ r → r ≤ u → up ((u - r) * w) (u - v) ≤ up ((u - p) * w) (u - v)
+pub up_falls : (u v w p r : ℕ) → v < p → p ≤ r → r ≤ u → div_ceil ((u - r) * w) (u - v) ≤ div_ceil ((u - p) * w) (u - v)
 up_falls u v w p r lo le hi =
     let some : 0 < u - v = omega arith in
     let closer : u - r ≤ u - p = omega arith in
     let less = mul-le-mul_right w closer in
-    let enough = up_enough ((u - p) * w) (u - v) some in
-    up_least ((u - r) * w) (u - v) (up ((u - p) * w) (u - v)) some (omega arith)
+    let enough = (div_ceil_times ((u - p) * w) (u - v) some).0 in
+    up_least ((u - r) * w) (u - v) (div_ceil ((u - p) * w) (u - v)) some (omega arith)
 
 -- in the next five, a place lies a past the start of the side and b before its end, counted in d-ths of a kW; m is what
 -- the price falls by along the side, i what it has fallen by at p, j what is left

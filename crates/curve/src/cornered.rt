@@ -68,6 +68,7 @@ impl<S: Form> Curve for Cornered<S> {
 
     ghost keeps = { λ c. curve_laws S.SHAPE c.corners.items c.fit };
 
+    #[tactic(auto, using(crate::specs::OutlineLaws::curve_farthest))]
     fn demand(&self, price: u32) -> u32
         ensures value { result ≡ (outline (sides S.SHAPE self.now.corners.items)).demand price }
         ensures farthest { 1 ≤ price → Farthest (price_at (sides S.SHAPE self.now.corners.items)) price result }

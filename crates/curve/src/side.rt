@@ -1,5 +1,5 @@
 ghost use Rattle.std.specs.Prelude.{◌≡◌, ◌+◌, ◌-◌, ◌*◌, ◌<◌, ◌≤◌};
-ghost use Rattle.curve.specs.Outline.{side as the_side, width as the_width, height as the_height, crossing as the_crossing, up, Sound};
+ghost use Rattle.curve.specs.Outline.{side as the_side, width as the_width, height as the_height, crossing as the_crossing, Sound};
 
 use crate::area::Area;
 use crate::corner::Corner;

@@ -1,4 +1,4 @@
-use Rattle.std.proofs.Common.{arith, w64, SFits, rules}
+use Rattle.std.proofs.Common.{arith, w64, SFits}
 use mir.Syntax.{w128}
 use Rattle.std.proofs.lemmas.Int.{to_z-of_z}
 use Rattle.std.proofs.lemmas.Bool.Decides.{nat_tests}
@@ -28,5 +28,5 @@ returns g c =
     let right = to_z-of_z w128 c.goal.result goal in
     record { weighed = (grind (arith, nat_tests), cc); area = curve_area shape corners c.args.self.now.fit }
 
-pub returns-then-from-to : goal.returns-then-from-to
-returns-then-from-to g c = record { weighed = search rules; area = curve_area g.S.Form.SHAPE c.args.self.now.corners.items c.args.self.now.fit }
+pub returns-then-from-to-clause-area : goal.returns-then-from-to-clause-area
+returns-then-from-to-clause-area g c = curve_area g.S.Form.SHAPE c.args.self.now.corners.items c.args.self.now.fit
