@@ -110,12 +110,6 @@ module _ (k : Shape) (all : List Corner) (place twice : ℕ) (c e : Corner) (es 
   here : Measuring (sides k all) c.quantity twice (s ∷ sides_from k e es)
   here = subst (λ (t : Side). Measuring (sides k all) c.quantity twice (t ∷ sides_from k e es)) (sym is) w.measuring
 
-  pub walked_from : s.from ≤ place
-  walked_from = let n = next in let b = w.before in omega arith
-
-  pub walked_small : twice ≤ 20000 * s.from
-  walked_small = let n = next in let m = w.measuring.small in omega arith
-
   pub walked_next : (more : ℕ) → more ≡ width s * (s.start + s.end) → s.to < place → Walked k all place (twice + more) e es
   walked_next more is-more past =
       let ends = ap (λ (t : Side). t.to) is ∙ (side_ends k c e).0 in
