@@ -15,7 +15,7 @@ fn are_in_range(corners: &[Corner]) -> bool
     ensures { result ≡ list_all in_range corners.now }
 {
     corners.iter().all(|corner| {
-        corner.price <= MOST_PENCE && corner.quantity >= 1 && corner.quantity <= CEILING
+        corner.price <= MOST_PENCE && (1..=CEILING).contains(&corner.quantity)
     })
 }
 
@@ -41,7 +41,7 @@ pub(crate) fn check(shape: Shape, corners: &[Corner]) -> Result<(), CurveRefusal
     ensures refusal { refused question result ≡ first_no (corner_questions shape corners.now) }
     ensures accepts { is_ok result ≡ accepted shape corners.now }
 {
-    if corners.is_empty() || corners.len() > MOST_CORNERS {
+    if !(1..=MOST_CORNERS).contains(&corners.len()) {
         return Err(CurveRefusal::CornerCount);
     }
     if !are_in_range(corners) {

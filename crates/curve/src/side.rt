@@ -13,6 +13,7 @@ pub enum Shape {
 }
 
 // A side of a curve: the price runs straight from `start`, just past the place `from`, to `end` at the place `to`.
+// `Sound` stands in the contracts and not in a ghost field, since specs/ makes sides of any corners, unsound ones too.
 #[derive(Clone, Copy)]
 pub struct Side {
     pub from: u32,
@@ -54,6 +55,7 @@ impl Side {
         }
         let gone = u64::from(self.start - price) * u64::from(self.width());
         let far = gone.div_ceil(u64::from(self.start - self.end));
+        // `as` is proved to lose nothing; `u32::try_from` would answer an error that cannot come
         self.from + far as u32
     }
 
