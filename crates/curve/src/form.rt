@@ -3,7 +3,7 @@ ghost use Rattle.curve.specs.declared.side.Shape.TheVariants.{Steps as BySteps, 
 
 use crate::side::Shape;
 
-// The form of a curve, as a type.
+// The form of a curve, as a type; contracts name it by its `Shape`.
 pub trait Form {
     ghost SHAPE: { TheShape };
 

@@ -4,6 +4,7 @@ ghost use Rattle.curve.specs.Weighing.{sign_number, compared};
 use std::cmp::Ordering;
 
 // How an area compares with a sum: below it, level with it, or above it.
+// Not std's `Ordering`, to which this crate could give no number by `From`.
 #[derive(Clone, Copy, PartialEq, Eq, Debug)]
 pub enum Sign {
     Below,
