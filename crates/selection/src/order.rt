@@ -29,7 +29,7 @@ impl Order for SelectedOrder {
     fn ahead(&self, a: &Exit, b: &Exit) -> bool {
         match self {
             SelectedOrder::ByRule => ByRule.ahead(a, b),
-            SelectedOrder::ByName => ByName.ahead(a, b),
+            SelectedOrder::ByName => ByName::default().ahead(a, b),
         }
     }
 }
