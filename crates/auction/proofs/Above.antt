@@ -54,11 +54,9 @@ formers_parts : (floor : ℕ) (e : Entry) (es : List Entry) → formers_above fl
 unfolding formers_above
 formers_parts floor e es h = and_parts _ _ h
 
--- of each operation
-
-pub above_none : (floor : ℕ) → book_above floor no_books ≡ true
+pub above_none : (floor : ℕ) (after : Books) → after ≡ no_books → book_above floor after ≡ true
 unfolding book_above exits_above formers_above
-above_none floor = refl
+above_none floor after is = rw is refl
 
 new_above : (floor : ℕ) (a : Application) → price_above floor (new_unit a).standing ≡ true
 new_above floor a = cases (class_of a.class)
@@ -67,34 +65,37 @@ new_above floor a = cases (class_of a.class)
     cases None = refl
     cases (Some c) = refl
 
-pub above_with_unit : (floor : ℕ) (b : Books) (a : Application) → book_above floor b ≡ true → book_above floor (with_unit b (new_unit a)) ≡ true
-above_with_unit floor b a h =
+-- of what each operation makes of a book
+
+pub above_with_unit : (floor : ℕ) (b after : Books) (a : Application) → after ≡ with_unit b (new_unit a) → book_above floor b ≡ true → book_above floor after ≡ true
+above_with_unit floor b after a is h =
     let parts = above_parts floor b h in
-    above_from floor _ (exits_more floor b.units (new_unit a) parts.0 (new_above floor a)) parts.1
+    rw is (above_from floor _ (exits_more floor b.units (new_unit a) parts.0 (new_above floor a)) parts.1)
 
 above_with_entry : (floor : ℕ) (b : Books) (i : ℕ) (s : Standing) → price_above floor s ≡ true → book_above floor b ≡ true → book_above floor (with_entry b i s) ≡ true
 above_with_entry floor b i s k h =
     let parts = above_parts floor b h in
     above_from floor _ (exits_set floor b.units i s parts.0 k) (formers_more floor _ b.entries (exits_at floor b.units i parts.0) parts.1)
 
-pub above_with_exit : (floor : ℕ) (b : Books) (i price : ℕ) → floor < price → book_above floor b ≡ true → book_above floor (with_exit b i price) ≡ true
-above_with_exit floor b i price lt = above_with_entry floor b i (out_at (unit_at b i).standing price) (lt-ltb floor price lt)
+pub above_with_exit : (floor : ℕ) (b after : Books) (i price : ℕ) → after ≡ with_exit b i price → floor < price → book_above floor b ≡ true → book_above floor after ≡ true
+above_with_exit floor b after i price is lt h =
+    rw is (above_with_entry floor b i (out_at (unit_at b i).standing price) (lt-ltb floor price lt) h)
 
-pub above_with_years : (floor : ℕ) (b : Books) (i years : ℕ) → book_above floor b ≡ true → book_above floor (with_years b i years) ≡ true
-above_with_years floor b i years h =
-    above_with_entry floor b i (for_years (unit_at b i).standing years) (exits_at floor b.units i (above_parts floor b h).0) h
+pub above_with_years : (floor : ℕ) (b after : Books) (i years : ℕ) → after ≡ with_years b i years → book_above floor b ≡ true → book_above floor after ≡ true
+above_with_years floor b after i years is h =
+    rw is (above_with_entry floor b i (for_years (unit_at b i).standing years) (exits_at floor b.units i (above_parts floor b h).0) h)
 
 above_undone : (floor : ℕ) (us : List Row) (es : List Entry) → exits_above floor us ≡ true → formers_above floor es ≡ true → book_above floor (undone us es) ≡ true
 above_undone floor us [] h k = above_from floor _ h k
 above_undone floor us (e ∷ es) h k =
     let parts = formers_parts floor e es k in above_from floor _ (exits_set floor us e.unit e.former h parts.0) parts.1
 
-pub above_stepped_back : (floor : ℕ) (b : Books) → book_above floor b ≡ true → book_above floor (stepped_back b) ≡ true
-above_stepped_back floor b h = let parts = above_parts floor b h in above_undone floor b.units b.entries parts.0 parts.1
+pub above_stepped_back : (floor : ℕ) (b after : Books) → after ≡ stepped_back b → book_above floor b ≡ true → book_above floor after ≡ true
+above_stepped_back floor b after is h = let parts = above_parts floor b h in rw is (above_undone floor b.units b.entries parts.0 parts.1)
 
-pub above_closed : (floor : ℕ) (b : Books) → book_above floor b ≡ true → book_above floor (closed_book b) ≡ true
+pub above_closed : (floor : ℕ) (b after : Books) → after ≡ closed_book b → book_above floor b ≡ true → book_above floor after ≡ true
 unfolding formers_above
-above_closed floor b h = above_from floor _ (above_parts floor b h).0 refl
+above_closed floor b after is h = rw is (above_from floor _ (above_parts floor b h).0 refl)
 
 -- of a lower floor
 

@@ -16,6 +16,7 @@ mod standing;
 mod turns;
 
 // One auction: its numbers, its book, and the curve and the order that it was opened with. `top` is the cap of the present round.
+// Contracts read it as `state C.Curve.meaning O.Order.ahead`: a model's Value may hold no function, nor name a bound's members.
 #[derive(Drop)]
 pub struct Auction<C, O> {
     number: u16,

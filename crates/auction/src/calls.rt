@@ -20,7 +20,8 @@ pub struct Figures {
     pub demand: u32,
 }
 
-// What a call answered: the number of a question, or its result with the clock that it gave.
+// What a call answered: the number of a question, or its result with the clock that it gave. Laws over answers speak of numbers,
+// by the rules, so a refusal is the number and not its kind.
 #[derive(Clone, Copy, PartialEq, Eq, Debug)]
 pub enum Answer {
     Refused(u32),

@@ -23,7 +23,8 @@ fn is_among(unit: usize, exits: &[Exit]) -> bool
     exits.iter().any(|exit| unit == exit.unit)
 }
 
-// Whether a unit is awarded, given the exits that are: it is still in, or its exit is one of them.
+// Whether a unit is awarded, given the exits that are: it is still in, or its exit is one of them. Its exit price is read by
+// `let .. else`, a form that the project keeps.
 pub(super) fn is_awarded(row: &Unit, unit: usize, awarded: &[Exit]) -> bool
     requires { out_if_priced row.now.standing ≡ true }
     ensures { result ≡ (row.now.standing.inside || among unit awarded.now) }
@@ -95,7 +96,7 @@ impl<C: Curve, O: Order<Item = Exit>> Auction<C, O> {
         Ok(self.settled())
     }
 
-    // The kW and the years that a unit is awarded, both 0 if it is awarded nothing.
+    // The kW and the years that a unit is awarded, both 0 if it is awarded nothing: the rules ask for this pair, and for no Option.
     pub fn award(&self, clock: &SettledClock, unit: usize) -> Result<(u32, u32), Refusal>
         ensures { numbered result ≡ award_read (state C.Curve.meaning O.Order.ahead self.now) clock.now.stamp unit }
     {

@@ -30,6 +30,7 @@ pub fn check_open<C: Curve>(prices: Prices, curve: &C) -> Result<(), Refusal>
 
 impl<C: Curve, O: Order<Item = Exit>> Auction<C, O> {
     // An auction with no unit enrolled.
+    #[tactic(auto, using(crate::proofs::Above::open_allowed, crate::proofs::Above::above_none))]
     fn new(number: u16, prices: Prices, setting: Setting<C, O>) -> Auction<C, O>
         requires { first_no (open_questions (C.Curve.meaning setting.curve) prices.«cap» prices.spread prices.threshold) ≡ None }
         ensures { state C.Curve.meaning O.Order.ahead result ≡ opened_with C.Curve.meaning O.Order.ahead number prices setting }
@@ -48,7 +49,8 @@ impl<C: Curve, O: Order<Item = Exit>> Auction<C, O> {
         }
     }
 
-    // Opens an auction, with its enrolment clock; refused, it gives curve, order and room back.
+    // Opens an auction, with its enrolment clock; refused, it gives curve, order and room back. A `match`, since a closure for
+    // `map_err` would take what the other way opens the auction over.
     pub fn open(
         number: u16,
         prices: Prices,

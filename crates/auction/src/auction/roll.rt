@@ -1,4 +1,4 @@
-ghost use Rattle.std.specs.Prelude.{◌≡◌, ◌≤◌, ◌++◌, length, drop};
+ghost use Rattle.std.specs.Prelude.{◌≡◌};
 ghost use Rattle.auction.specs.Reading.{numbered, settlement_of};
 ghost use Rattle.auction.specs.Rolls.{roll_of, roll_read};
 ghost use Rattle.auction.specs.Views.{state};
@@ -12,14 +12,6 @@ use arrayvec::ArrayVec;
 use book::MOST_UNITS;
 use curve::Curve;
 use ranking::{Exit, Order, RollOrder, RollRow};
-
-// Writes items over the front of a slice; what stands past them stays.
-fn write_front<T: Copy>(items: &mut [T], front: &[T])
-    requires { length front.now ≤ length items.old }
-    ensures { items.new ≡ front.now ++ drop (length front.now) items.old }
-{
-    items[..front.len()].copy_from_slice(front);
-}
 
 impl<C: Curve, O: Order<Item = Exit>> Auction<C, O> {
     // The rows of the awarded units, in the order of the roll.
@@ -53,7 +45,7 @@ impl<C: Curve, O: Order<Item = Exit>> Auction<C, O> {
         if awarded.len() > rows.len() {
             return Err(Refusal::Rows);
         }
-        write_front(rows, awarded.as_slice());
+        rows[..awarded.len()].copy_from_slice(awarded.as_slice());
         Ok(awarded.len())
     }
 }

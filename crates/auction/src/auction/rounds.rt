@@ -98,6 +98,7 @@ impl<C: Curve, O: Order<Item = Exit>> Auction<C, O> {
     }
 
     // Opens the round after one that did not clear.
+    #[tactic(auto, using(crate::proofs::Above::above_lower, crate::proofs::Floors::own_shut_floor))]
     pub fn next(&mut self, clock: ShutClock) -> Result<OpenClock, GivenBack<ShutClock, Refusal>>
         ensures step { (state C.Curve.meaning O.Order.ahead self.new, traded (λ made. Opened made.stamp) result) ≡ went_on (state C.Curve.meaning O.Order.ahead self.old) clock.stamp }
         ensures back { GivesBack clock result }

@@ -1,5 +1,4 @@
-use Rattle.std.proofs.Common.{◌-◌, sym, ap, ◌∙◌}
-use Rattle.auction.specs.Sound.{book_above}
+use Rattle.std.proofs.Common.{sym, ◌∙◌}
 use Rattle.book.specs.Views.{books}
 use Rattle.auction.proofs.Above.{above_closed}
 use Rattle.auction.proofs.Floors.{shut_has_floor}
@@ -12,5 +11,4 @@ invariant_of-self-2-clause-left g c =
 
 pub invariant_of-self-2-clause-above : goal.invariant_of-self-2-clause-above
 invariant_of-self-2-clause-above g c =
-    let was = c.args.self.now in
-    ap (book_above (was.top - was.spread)) c.close.ensures ∙ above_closed _ (books was.book) was.above
+    let was = c.args.self.now in above_closed _ (books was.book) _ c.close.ensures was.above

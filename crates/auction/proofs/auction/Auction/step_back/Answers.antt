@@ -1,10 +1,7 @@
-use Rattle.std.proofs.Common.{◌-◌, ap, ◌∙◌}
-use Rattle.auction.specs.Sound.{book_above}
 use Rattle.book.specs.Views.{books}
 use Rattle.auction.proofs.Above.{above_stepped_back}
 use Rattle.auction.proofs.auction.Auction.step_back.Goals as goal
 
 pub invariant_of-self-clause-above : goal.invariant_of-self-clause-above
 invariant_of-self-clause-above g c =
-    let was = c.args.self.now in
-    ap (book_above (was.top - was.spread)) c.step_back.ensures ∙ above_stepped_back _ (books was.book) was.above
+    let was = c.args.self.now in above_stepped_back _ (books was.book) _ c.step_back.ensures was.above
