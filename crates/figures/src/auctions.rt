@@ -6,16 +6,17 @@ ghost use Rattle.auction.specs.Steps.{enrolled, exited, served, went_back, close
 ghost use Rattle.auction.specs.Views.{state};
 
 use crate::clearings::Cleared;
-use crate::curves::made_straight;
+use crate::curves::made;
 use crate::outcome::{ACCEPTED, Outcome};
 use crate::sheet::{Figure, Sheet};
 use crate::units::{BECK, COMBE, DALE, EDGE, HOLT};
 use anyhow::{Context, bail};
-use auction::{Auction, Closed, EnrolmentClock, OpenClock, SettledClock};
+use auction::{Auction, Closed, EnrolmentClock, Figures, OpenClock, Prices, Setting, SettledClock};
 use book::{Application, Room};
 use clearing::{Ground, Settlement};
 use curve::{Curve, Straight};
 use ranking::{ByRule, Exit, Order};
+use std::alloc::Global;
 use std::{fmt, io};
 
 type Worked = Auction<Straight, ByRule>;
@@ -54,15 +55,14 @@ impl fmt::Display for End {
 // What the close of a round comes to.
 #[derive(Clone, Copy, PartialEq)]
 struct Ending {
-    capacity_in: u32,
-    demand: u32,
+    figures: Figures,
     end: End,
 }
 
 impl fmt::Display for Ending {
     fn fmt<W: fmt::Write>(&self, f: &mut fmt::Formatter<W>) -> fmt::Result {
-        let capacity_in = self.capacity_in;
-        let demand = self.demand;
+        let capacity_in = self.figures.capacity_in;
+        let demand = self.figures.demand;
         let end = self.end;
         write!(f, "{capacity_in} in, demand {demand}, {end}")
     }
@@ -92,10 +92,18 @@ impl Figure for Award {
 }
 
 // Opens the auction over K, with ties by rule.
-fn opened(rt: &HostRuntime) -> anyhow::Result<(Worked, EnrolmentClock)> {
-    let k = made_straight(rt.alloc())?;
-    let room = Room::new(rt.alloc())?;
-    Auction::open(1, 7_000, 3_000, 2_500, k, ByRule, room)
+fn opened(heap: Global) -> anyhow::Result<(Worked, EnrolmentClock)> {
+    let prices = Prices {
+        cap: 7_000,
+        spread: 3_000,
+        threshold: 2_500,
+    };
+    let setting = Setting {
+        curve: made(heap)?,
+        order: ByRule,
+        room: Room::new(heap)?,
+    };
+    Auction::open(1, prices, setting)
         .ok()
         .context("the auction is not opened")
 }
@@ -128,7 +136,7 @@ fn show_exit<C: Curve, O: Order<Item = Exit>>(
 ) -> io::Result<()>
     ensures { state C.Curve.meaning O.Order.ahead auction.new ≡ (exited (state C.Curve.meaning O.Order.ahead auction.old) clock.now.stamp unit price).0 }
 {
-    let answer = Outcome::of_auction(auction.exit(clock, unit, price));
+    let answer = Outcome::of(auction.exit(clock, unit, price));
     sheet.show(
         format_args!("exit of unit {unit} at {price}: "),
         answer,
@@ -146,7 +154,7 @@ fn show_years<C: Curve, O: Order<Item = Exit>>(
 ) -> io::Result<()>
     ensures { state C.Curve.meaning O.Order.ahead auction.new ≡ (served (state C.Curve.meaning O.Order.ahead auction.old) clock.now.stamp unit years).0 }
 {
-    let answer = Outcome::of_auction(auction.years(clock, unit, years));
+    let answer = Outcome::of(auction.years(clock, unit, years));
     sheet.show(
         format_args!("years of unit {unit} to {years}: "),
         answer,
@@ -162,7 +170,7 @@ fn show_step_back<C: Curve, O: Order<Item = Exit>>(
 ) -> io::Result<()>
     ensures { state C.Curve.meaning O.Order.ahead auction.new ≡ (went_back (state C.Curve.meaning O.Order.ahead auction.old) clock.now.stamp).0 }
 {
-    let answer = Outcome::of_auction(auction.step_back(clock));
+    let answer = Outcome::of(auction.step_back(clock));
     sheet.show("step back: ", answer, due)
 }
 
@@ -180,12 +188,7 @@ fn close_round<C: Curve, O: Order<Item = Exit>>(
         Closed::Shut(_) => End::Shut,
         Closed::Settled(_) => End::Settled,
     };
-    let ending = Ending {
-        capacity_in: figures.capacity_in,
-        demand: figures.demand,
-        end,
-    };
-    sheet.show("close: ", ending, due)?;
+    sheet.show("close: ", Ending { figures, end }, due)?;
     Ok(closed)
 }
 
@@ -217,9 +220,12 @@ fn round_one(
     clock: OpenClock,
 ) -> anyhow::Result<OpenClock> {
     show_exit(sheet, auction, &clock, 4, 5_000, ACCEPTED)?;
-    let due = Ending {
+    let figures = Figures {
         capacity_in: 21_400,
         demand: 20_000,
+    };
+    let due = Ending {
+        figures,
         end: End::Shut,
     };
     let Closed::Shut(shut) = close_round(sheet, auction, clock, due)? else {
@@ -253,9 +259,12 @@ fn round_two(
     show_edges(sheet, auction, &clock)?;
     show_exit(sheet, auction, &clock, 3, 3_600, ACCEPTED)?;
     show_exit(sheet, auction, &clock, 2, 3_600, ACCEPTED)?;
-    let due = Ending {
+    let figures = Figures {
         capacity_in: 19_000,
         demand: 27_500,
+    };
+    let due = Ending {
+        figures,
         end: End::Settled,
     };
     let Closed::Settled(settled) = close_round(sheet, auction, clock, due)? else {
@@ -304,7 +313,7 @@ fn show_results(sheet: &mut Sheet, auction: &Worked, clock: &SettledClock) -> an
 
 pub fn show(sheet: &mut Sheet) -> anyhow::Result<()> {
     sheet.rt.println("The worked auction")?;
-    let (mut auction, enrolling) = opened(sheet.rt)?;
+    let (mut auction, enrolling) = opened(sheet.rt.alloc())?;
     sheet.rt.println("open with cap 7000, spread 3000, threshold 2500: accepted")?;
     let first = enrol_all(sheet, &mut auction, enrolling)?;
     let second = round_one(sheet, &mut auction, first)?;

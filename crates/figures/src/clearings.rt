@@ -6,12 +6,12 @@ ghost use Rattle.clearing.specs.Finding.{outcome_of};
 ghost use Rattle.clearing.specs.Premise.{Clearable};
 ghost use Rattle.figures.specs.Counts.{CountedFor};
 
-use crate::curves::made_straight;
+use crate::curves::made;
 use crate::sheet::{Figure, Sheet};
 use crate::units::{COMBE, DALE, EDGE};
 use book::Application;
-use clearing::{Ground, Settlement, clear};
-use curve::Curve;
+use clearing::{Ground, Round, Settlement, clear};
+use curve::{Curve, Straight};
 use ranking::Exit;
 use std::{fmt, io};
 
@@ -25,7 +25,7 @@ impl fmt::Display for Cleared {
             return f.write_str("does not clear");
         };
         let price = settlement.price;
-        let ground = settlement.ground.number();
+        let ground = u32::from(settlement.ground);
         let stop = settlement.stop;
         write!(f, "price {price}, ground {ground}, stopping place {stop}")
     }
@@ -61,7 +61,12 @@ fn show_clearing<C: Curve>(
     requires { Clearable floor capacity_in exits.now }
     ensures { OnOk result (CountedFor (outcome_of (C.meaning curve.now) floor capacity_in exits.now ≡ due) sheet.old.tally sheet.new.tally) }
 {
-    let outcome = clear(curve, floor, capacity_in, exits);
+    let round = Round {
+        floor,
+        capacity_in,
+        exits,
+    };
+    let outcome = clear(curve, round);
     let rt = sheet.rt;
     print!(rt; "floor {floor}, {capacity_in} in")?;
     for exit in exits {
@@ -83,7 +88,7 @@ fn cleared_so(price: u32, ground: Ground, stop: usize) -> Option<Settlement>
 }
 
 pub fn show(sheet: &mut Sheet) -> anyhow::Result<()> {
-    let k = made_straight(sheet.rt.alloc())?;
+    let k: Straight = made(sheet.rt.alloc())?;
     let edge = exit_of(4, &EDGE, 5_000);
     let dale = exit_of(3, &DALE, 3_600);
     let mut combe = exit_of(2, &COMBE, 3_600);

@@ -10,7 +10,7 @@ use crate::outcome::{ACCEPTED, Outcome};
 use crate::sheet::Sheet;
 use crate::words::Found;
 use anyhow::Context;
-use curve::{Corner, Curve, CurveRefusal, Sign, Stepped, Straight};
+use curve::{Corner, Cornered, Curve, Form, Lines, Sign, Stepped, Steps, Straight};
 use std::alloc::Global;
 use std::{array, io};
 
@@ -29,22 +29,13 @@ pub const K: [Corner; 3] = [
     },
 ];
 
-// The straight curve with the corners of K.
-pub fn made_straight(heap: Global) -> anyhow::Result<Straight>
+// The curve of a form with the corners of K.
+pub fn made<S: Form>(heap: Global) -> anyhow::Result<Cornered<S>>
     ensures { IfOk result (λ c. c.corners.items ≡ worked_corners) }
 {
-    Straight::make(K.to_vec(heap)?)
+    Cornered::make(K.to_vec(heap)?)
         .ok()
-        .context("the corners make no straight curve")
-}
-
-// The stepped curve with the corners of K.
-pub fn made_stepped(heap: Global) -> anyhow::Result<Stepped>
-    ensures { IfOk result (λ c. c.corners.items ≡ worked_corners) }
-{
-    Stepped::make(K.to_vec(heap)?)
-        .ok()
-        .context("the corners make no stepped curve")
+        .context("the corners make no curve")
 }
 
 fn show_demand<C: Curve>(sheet: &mut Sheet, curve: &C, price: u32, due: u32) -> io::Result<()>
@@ -71,12 +62,12 @@ fn show_weighing<C: Curve>(
 }
 
 fn show_demands(sheet: &mut Sheet) -> anyhow::Result<()> {
-    let straight = made_straight(sheet.rt.alloc())?;
+    let straight: Straight = made(sheet.rt.alloc())?;
     sheet.rt.println("Demand on the straight curve K")?;
     for (price, due) in [(7_001, 0), (7_000, 10_000), (6_000, 13_334), (1, 29_998)] {
         show_demand(sheet, &straight, price, due)?;
     }
-    let stepped = made_stepped(sheet.rt.alloc())?;
+    let stepped: Stepped = made(sheet.rt.alloc())?;
     sheet
         .rt
         .println("Demand on the stepped curve with K's corners")?;
@@ -87,7 +78,7 @@ fn show_demands(sheet: &mut Sheet) -> anyhow::Result<()> {
 }
 
 fn show_weighings(sheet: &mut Sheet) -> anyhow::Result<()> {
-    let straight = made_straight(sheet.rt.alloc())?;
+    let straight: Straight = made(sheet.rt.alloc())?;
     sheet.rt.println("Areas of K against 3600000")?;
     show_weighing(sheet, &straight, 20_400, 21_400, Sign::Above)?;
     show_weighing(sheet, &straight, 20_500, 21_500, Sign::Level)?;
@@ -146,17 +137,11 @@ fn show_counts(sheet: &mut Sheet) -> io::Result<()> {
     sheet.show("17 corners: ", seventeen, Outcome(Some(1)))
 }
 
-// Shows what the questions of a curve answer at these edges.
-fn show_edges<F: Fn(&[Corner]) -> Result<(), CurveRefusal>>(
-    sheet: &mut Sheet,
-    check: F,
-    edges: &[Edge],
-) -> io::Result<()>
-    requires { F.IsAlwaysCallable check }
-{
+// Shows what the questions of a curve of a form answer at these edges.
+fn show_edges<S: Form>(sheet: &mut Sheet, edges: &[Edge]) -> io::Result<()> {
     for edge in edges {
         let what = edge.what;
-        let answer = Outcome::of(check(&edge.corners));
+        let answer = Outcome::of(Cornered::<S>::check(&edge.corners));
         sheet.show(format_args!("{what}: "), answer, Outcome(edge.due))?;
     }
     Ok(())
@@ -181,7 +166,7 @@ fn show_straight_edges(sheet: &mut Sheet) -> io::Result<()> {
             Some(4),
         ),
     ];
-    show_edges(sheet, Straight::check, &edges)
+    show_edges::<Lines>(sheet, &edges)
 }
 
 fn show_stepped_edges(sheet: &mut Sheet) -> io::Result<()> {
@@ -201,7 +186,7 @@ fn show_stepped_edges(sheet: &mut Sheet) -> io::Result<()> {
             Some(2),
         ),
     ];
-    show_edges(sheet, Stepped::check, &edges)
+    show_edges::<Steps>(sheet, &edges)
 }
 
 pub fn show(sheet: &mut Sheet) -> anyhow::Result<()> {

@@ -1,13 +1,10 @@
 // What a call answers, as far as its questions go.
 
-ghost use Rattle.std.specs.Prelude.{◌≡◌};
+ghost use Rattle.std.specs.Prelude.{◌≡◌, ℕ};
 ghost use Rattle.std.proofs.Common.{rules};
-ghost use Rattle.auction.specs.Steps.{auction_question};
-ghost use Rattle.curve.specs.Questions.{refused, question};
+ghost use Rattle.curve.specs.Questions.{refused};
 
 use crate::sheet::Figure;
-use auction::Refusal;
-use curve::CurveRefusal;
 use std::fmt;
 
 // No question was answered "no".
@@ -31,21 +28,10 @@ impl Figure for Outcome {
 }
 
 impl Outcome {
-    pub fn of<T: Drop>(answer: Result<T, CurveRefusal>) -> Outcome
-        ensures { result.0 ≡ refused question answer }
+    // What a call answered, refused by a question that has a number.
+    pub fn of<T: Drop, E: Into<u32>>(answer: Result<T, E>) -> Outcome
+        ensures { (number : E → ℕ) → ((e : E) (n : ℕ) → E.converts e n → n ≡ number e) → result.0 ≡ refused number answer }
     {
-        match answer {
-            Ok(_) => Outcome(None),
-            Err(refusal) => Outcome(Some(refusal.number())),
-        }
-    }
-
-    pub fn of_auction<T: Drop>(answer: Result<T, Refusal>) -> Outcome
-        ensures { result.0 ≡ refused auction_question answer }
-    {
-        match answer {
-            Ok(_) => Outcome(None),
-            Err(refusal) => Outcome(Some(refusal.number())),
-        }
+        Outcome(answer.err().map(|refusal| refusal.into()))
     }
 }

@@ -172,7 +172,9 @@ fn show_by_name(sheet: &mut Sheet) -> io::Result<()> {
     sheet
         .rt
         .println("Exits by price, ties by name; unit numbers")?;
-    let order = ExitRanking { ties: ByName };
+    let order = ExitRanking {
+        ties: ByName::default(),
+    };
     let ties = [[0, 1], [1, 2], [2, 3], [4, 3]];
     show_exits(sheet, &order, &ties, &[5, 0, 1, 2, 4, 3])
 }
@@ -194,7 +196,7 @@ fn show_roll(sheet: &mut Sheet) -> io::Result<()> {
     sheet.rt.println("The roll; unit numbers")?;
     let mut rows = [&FIR, &YEW, &OAK, &ELM, &BAY, &ASH].map(row);
     let due = [0, 1, 2, 5, 4, 3];
-    show_ranking(sheet, "all units", &RollOrder, &mut rows, &due)
+    show_ranking(sheet, "all units", &RollOrder::default(), &mut rows, &due)
 }
 
 // Shows the worked rankings, each beside what it should be.

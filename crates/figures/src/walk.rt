@@ -2,7 +2,7 @@
 
 ghost use Rattle.std.specs.Prelude.{◌≡◌, ◌-◌};
 
-use crate::curves::{K, made_straight};
+use crate::curves::{K, made};
 use crate::words::Found;
 use curve::{Curve, Straight};
 use std::io;
@@ -44,7 +44,7 @@ fn weigh_once<C: Curve>(
             println!(rt; "the area from {from} to {to} is {found} {sum}")
         }
         Err(refusal) => {
-            let number = refusal.number();
+            let number = u32::from(refusal);
             println!(rt; "the area from {from} to {to} is refused by question {number}")
         }
     }
@@ -56,7 +56,7 @@ pub fn show(rt: &HostRuntime) -> anyhow::Result<()> {
         let price = corner.price;
         println!(rt; "corner {quantity} kW at {price}")?;
     }
-    let straight = made_straight(rt.alloc())?;
+    let straight: Straight = made(rt.alloc())?;
     println!(rt; "the straight curve is made; cap {CAP}, spread {SPREAD}")?;
     walk(rt, &straight, CAP, SPREAD)?;
     weigh_once(rt, &straight, 20_400, 21_400, 3_600_000)?;
