@@ -4,15 +4,18 @@
 
 #[cfg(test)]
 mod tests {
-    use auction::{Auction, Closed, EnrolmentClock, OpenClock, Refusal, SettledClock, check_open};
+    use auction::{
+        Auction, Closed, EnrolmentClock, OpenClock, Prices, Refusal, Setting, SettledClock,
+        check_open,
+    };
     use book::{Application, Room, Side};
     use curve::{Corner, Stepped};
-    use ranking::{ByName, Name, RollRow};
+    use ranking::{ByName, Exit, Name, RollRow};
     use std::alloc::Global;
     use std::process::Abort;
     use std::test::Fail;
 
-    type Rehearsal = Auction<Stepped, ByName>;
+    type Rehearsal = Auction<Stepped, ByName<Exit>>;
 
     const UNIT: Application = Application {
         capacity: 1_000,
@@ -25,7 +28,7 @@ mod tests {
 
     // The number of the question that was answered "no", if any.
     fn refused<T: Drop>(answer: Result<T, Refusal>) -> Option<u32> {
-        answer.err().map(|why| why.number())
+        answer.err().map(u32::from)
     }
 
     // 100,000,000 kW are wanted up to a price.
@@ -41,11 +44,23 @@ mod tests {
         curve_up_to(heap, 9_000)
     }
 
+    fn prices(cap: u32, spread: u32, threshold: u32) -> Prices {
+        Prices {
+            cap,
+            spread,
+            threshold,
+        }
+    }
+
     fn open(heap: Global, number: u16) -> Result<(Rehearsal, EnrolmentClock), Fail> {
-        let room = Room::new(heap)?;
-        Auction::open(number, 9_000, 1_000, 8_500, curve(heap)?, ByName, room).map_err(
-            |_| Fail::new("not opened"),
-        )
+        let setting = Setting {
+            curve: curve(heap)?,
+            order: ByName::default(),
+            room: Room::new(heap)?,
+        };
+        Auction::open(number, prices(9_000, 1_000, 8_500), setting).map_err(|_| Fail::new(
+            "not opened",
+        ))
     }
 
     fn begin(
@@ -70,13 +85,22 @@ mod tests {
     #[test]
     fn opening(rt: HostRuntime) -> Result<(), Fail> {
         let wanted = curve(rt.alloc())?;
-        assert_eq!(rt; refused(check_open(0, 1, 0, &wanted)), Some(6));
-        assert_eq!(rt; refused(check_open(1, 1, 0, &wanted)), None);
-        assert_eq!(rt; refused(check_open(9_000, 9_000, 9_000, &wanted)), None);
-        assert_eq!(rt; refused(check_open(9_001, 1, 0, &wanted)), Some(6));
-        assert_eq!(rt; refused(check_open(9_000, 0, 0, &wanted)), Some(7));
-        assert_eq!(rt; refused(check_open(9_000, 9_001, 0, &wanted)), Some(7));
-        assert_eq!(rt; refused(check_open(9_000, 1, 9_001, &wanted)), Some(8));
+        assert_eq!(rt; refused(check_open(prices(0, 1, 0), &wanted)), Some(6));
+        assert_eq!(rt; refused(check_open(prices(1, 1, 0), &wanted)), None);
+        assert_eq!(rt;
+            refused(check_open(prices(9_000, 9_000, 9_000), &wanted)),
+            None
+        );
+        assert_eq!(rt; refused(check_open(prices(9_001, 1, 0), &wanted)), Some(6));
+        assert_eq!(rt; refused(check_open(prices(9_000, 0, 0), &wanted)), Some(7));
+        assert_eq!(rt;
+            refused(check_open(prices(9_000, 9_001, 0), &wanted)),
+            Some(7)
+        );
+        assert_eq!(rt;
+            refused(check_open(prices(9_000, 1, 9_001), &wanted)),
+            Some(8)
+        );
         Ok(())
     }
 
@@ -201,8 +225,8 @@ mod tests {
     #[test]
     fn opening_at_the_highest_cap(rt: HostRuntime) -> Result<(), Fail> {
         let wanted = curve_up_to(rt.alloc(), 10_000)?;
-        assert_eq!(rt; refused(check_open(10_000, 1, 0, &wanted)), None);
-        assert_eq!(rt; refused(check_open(10_001, 1, 0, &wanted)), Some(6));
+        assert_eq!(rt; refused(check_open(prices(10_000, 1, 0), &wanted)), None);
+        assert_eq!(rt; refused(check_open(prices(10_001, 1, 0), &wanted)), Some(6));
         Ok(())
     }
 
@@ -282,7 +306,7 @@ mod tests {
         written: usize,
     ) {
         assert_eq!(rt; refused(auction.roll(clock, rows)), due);
-        let count = rows.iter().filter(|row| row.unit != UNWRITTEN.unit).count();
+        let count = rows.iter().filter(|row| **row != UNWRITTEN).count();
         assert_eq!(rt; count, written);
     }
 
