@@ -1,16 +1,18 @@
 -- Looking at the units one by one finds the exits of a round, and the rows of a roll. Assumes nothing.
-use Rattle.std.proofs.Common.{◌≡◌, ℕ, ◌+◌, ◌<◌, ◌≤◌, Bool, true, false, ◌||◌, cond, List, [], ◌∷◌, ◌++◌, length, drop, fold, Some, None, Option, sym, ap, ◌∙◌, append_assoc, append-nil, arith}
+use Rattle.std.proofs.Common.{◌≡◌, ℕ, ◌+◌, ◌<◌, ◌≤◌, Bool, true, false, ◌||◌, cond, List, [], ◌∷◌, ◌++◌, length, drop, fold, Some, None, Option, sym, refl, ap, ◌∙◌, append_assoc, append-nil, arith}
 use Rattle.std.specs.Option.{option_to_list}
-use Rattle.std.proofs.lemmas.List.{drop_more, drop_all}
+use Rattle.std.proofs.lemmas.List.{drop_more, at_drop_all}
 use Rattle.std.proofs.lemmas.List.Sorted.{length_permutation}
 use Rattle.std.specs.List.{refill}
 use Rattle.arrayvec.proofs.ArrayVecLemmas.{items-with_items}
 use Rattle.auction.specs.Awards.{among, awarded_exits, is_awarded}
-use Rattle.auction.specs.Rolls.{row_of, rows_of}
-use Rattle.auction.specs.State.{State}
+use Rattle.auction.specs.Reading.{settlement_of}
+use Rattle.auction.specs.Rolls.{row_of, rows_of, roll_of}
+use Rattle.auction.specs.State.{State, ranked_exits}
 use Rattle.book.specs.Books.{exits_up_to, no_unit, unit_at, years_at}
 use Rattle.book.specs.declared.unit.Unit.{Unit as Row}
 use Rattle.clearing.specs.declared.settlement.Settlement.{Settlement}
+use Rattle.ranking.specs.Ahead.{price_ahead, roll_ahead}
 use Rattle.ranking.specs.declared.exits.Exit.{Exit}
 use Rattle.ranking.specs.declared.roll.RollRow.{RollRow}
 use Rattle.ranking.specs.Rankings.{placed, ranking_of}
@@ -60,15 +62,22 @@ module _ (s : State) (settled : Settlement) (i : ℕ) (u : Row) (awarded : List 
   row_passed passes same =
       rows_on s settled i s.book.units found after all _ here going (sym (row_none s settled i (sym asked_is ∙ passes))) (same ∙ sym (append-nil found))
 
--- every unit has been looked at
+-- every unit has been looked at, and what was found is ranked
 
-pub exits_all : (top i : ℕ) (us : List Row) (found all : List Exit) → length us ≤ i → found ++ exits_up_to top i (drop i us) ≡ all → found ≡ all
-exits_all top i us found all le going =
-    sym (append-nil found) ∙ sym (ap (λ (vs : List Row). found ++ exits_up_to top i vs) (drop_all i us le)) ∙ going
+all_found : {X : Type 0} (F : List Row → List X) → F [] ≡ [] → (i : ℕ) (us : List Row) (found all : List X) → length us ≤ i → found ++ F (drop i us) ≡ all → found ≡ all
+all_found {X = X} F none i us found all le going =
+    sym (append-nil found) ∙ sym (ap (λ (xs : List X). found ++ xs) (at_drop_all F us i le ∙ none)) ∙ going
 
-pub rows_all : (s : State) (settled : Settlement) (i : ℕ) (us : List Row) (found all : List RollRow) → length us ≤ i → found ++ rows_of s settled i (drop i us) ≡ all → found ≡ all
-rows_all s settled i us found all le going =
-    sym (append-nil found) ∙ sym (ap (λ (vs : List Row). found ++ rows_of s settled i vs) (drop_all i us le)) ∙ going
+pub exits_ranked : (s : State) (us : List Row) (i : ℕ) (found after : List Exit) → us ≡ s.book.units → length us ≤ i → found ++ exits_up_to s.top i (drop i s.book.units) ≡ exits_up_to s.top 0 s.book.units → after ≡ ranking_of (price_ahead s.ahead) found → after ≡ ranked_exits s
+exits_ranked s us i found after these le going ranked =
+    let same = ap length these in
+    ranked ∙ ap (ranking_of (price_ahead s.ahead)) (all_found (exits_up_to s.top i) refl i s.book.units found _ (omega arith) going)
+
+pub rows_ranked : (s : State) (settled : Settlement) (us : List Row) (i : ℕ) (found after : List RollRow) → us ≡ s.book.units → length us ≤ i → found ++ rows_of s settled i (drop i s.book.units) ≡ rows_of s settled 0 s.book.units → after ≡ ranking_of roll_ahead found → settled ≡ settlement_of s → after ≡ roll_of s (settlement_of s)
+rows_ranked s settled us i found after these le going ranked is =
+    let same = ap length these in
+    ranked ∙ ap (ranking_of roll_ahead) (all_found (rows_of s settled i) refl i s.book.units found _ (omega arith) going)
+    ∙ ap (λ (x : Settlement). roll_of s x) is
 
 -- what was found, ranked where it stands
 

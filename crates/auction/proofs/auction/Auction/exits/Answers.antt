@@ -1,9 +1,8 @@
-use Rattle.std.proofs.Common.{length, ap, ◌∙◌, arith}
+use Rattle.std.proofs.Common.{length, ap, arith}
+use Rattle.auction.specs.Views.{state}
 use Rattle.book.specs.Views.{books}
 use Rattle.book.proofs.Rules.{lawful_keeps}
-use Rattle.ranking.specs.Ahead.{price_ahead}
-use Rattle.ranking.specs.Rankings.{ranking_of}
-use Rattle.auction.proofs.Gathers.{exits_all}
+use Rattle.auction.proofs.Gathers.{exits_ranked}
 use Rattle.auction.proofs.auction.Auction.exits.Goals as goal
 
 pub push-requires : goal.push-requires
@@ -14,7 +13,4 @@ push-requires g c =
 
 pub returns : goal.returns
 returns g c =
-    let was = c.args.self.now in
-    let same = ap length c.units-unit-items.ensures in
-    c.rank_items.ensures
-    ∙ ap (ranking_of (price_ahead (g.O.Order.ahead was.order.ties))) (exits_all was.top c.loop-i.i (books was.book).units _ _ (omega arith) c.loop-i.invariant.1)
+    exits_ranked (state g.C.Curve.meaning g.O.Order.ahead c.args.self.now) _ c.loop-i.i _ _ c.units-unit-items.ensures (omega arith) c.loop-i.invariant.1 c.rank_items.ensures

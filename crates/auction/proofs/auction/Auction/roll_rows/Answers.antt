@@ -1,16 +1,12 @@
 use Rattle.std.proofs.Common.{length, ap, ◌∙◌, arith}
 use Rattle.arrayvec.specs.ArrayVec.{ArrayVec, array_vec_len}
-use Rattle.auction.specs.Rolls.{roll_of}
 use Rattle.auction.specs.State.{State}
 use Rattle.auction.specs.Views.{state}
 use Rattle.book.specs.Views.{books}
 use Rattle.book.proofs.Rules.{lawful_keeps}
-use Rattle.clearing.specs.declared.settlement.Settlement.{Settlement}
-use Rattle.ranking.specs.Ahead.{roll_ahead}
 use Rattle.ranking.specs.declared.roll.RollRow.{RollRow}
-use Rattle.ranking.specs.Rankings.{ranking_of}
 use Rattle.auction.proofs.Awarding.{row_read, row_priced}
-use Rattle.auction.proofs.Gathers.{row_put, row_passed, rows_all}
+use Rattle.auction.proofs.Gathers.{row_put, row_passed, rows_ranked}
 use Rattle.auction.proofs.auction.Auction.roll_rows.Goals as goal
 use Rattle.auction.proofs.auction.Auction.roll_rows.Goals.{then-is_awarded, else-is_awarded}
 
@@ -39,7 +35,4 @@ loop-unit-preserved g c =
 
 pub returns : goal.returns
 returns g c =
-    let s : State = state g.C.Curve.meaning g.O.Order.ahead c.args.self.now in
-    c.rank_items.ensures
-    ∙ ap (ranking_of roll_ahead) (rows_all s c.settled-settlement.result c.loop-unit.unit (books c.args.self.now.book).units _ _ (let same = ap length c.units-row-items.ensures in omega arith) c.loop-unit.invariant.1)
-    ∙ ap (λ (settled : Settlement). roll_of s settled) c.settled-settlement.ensures
+    rows_ranked (state g.C.Curve.meaning g.O.Order.ahead c.args.self.now) _ _ c.loop-unit.unit _ _ c.units-row-items.ensures (omega arith) c.loop-unit.invariant.1 c.rank_items.ensures c.settled-settlement.ensures
