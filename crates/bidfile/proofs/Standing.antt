@@ -9,7 +9,7 @@ use Rattle.bidfile.specs.declared.records.OrderChoice.{OrderChoice}
 use Rattle.bidfile.specs.declared.records.OrderChoice.TheVariants.{ByRule, ByName}
 use Rattle.bidfile.specs.declared.records.SideChoice.{SideChoice}
 use Rattle.bidfile.specs.declared.records.SideChoice.TheVariants.{Taker, Maker}
-use Rattle.bidfile.specs.Found.{found_at, item_at, known_kind, name_at, operands, plain_words, terms_at, corner_at, unit_at, exit_at, years_at, bare_at}
+use Rattle.bidfile.specs.Found.{found_at, item_at, known_kind, name_at, operands, plain_words, terms_at, unit_at, bare_at}
 use Rattle.bidfile.specs.Items.{Item, terms, corner, unit, exit, years, step_back, close, item_kind, size, selected, curve_number, order_number, side_number}
 use Rattle.bidfile.specs.Layout.{head, tail_of, word_bytes, words_of}
 use Rattle.bidfile.specs.Reading.{Stands}
@@ -33,14 +33,9 @@ made_stands bytes at n m i small made e room plain =
     ∙ (ap (λ (ws : List ℕ). flat_map word_bytes ws ++ take m (drop (4 * (at + suc n)) bytes)) all
     ∙ ap (λ (xs : List ℕ). flat_map word_bytes (words_of i) ++ xs) (sym made.tail_is)))
 
-curve_back : (n : ℕ) (c : CurveChoice) → selected Straight Stepped n ≡ Some c → curve_number c ≡ n
-curve_back n c h = grind (arith, nat_tests)
-
-order_back : (n : ℕ) (o : OrderChoice) → selected ByRule ByName n ≡ Some o → order_number o ≡ n
-order_back n o h = grind (arith, nat_tests)
-
-side_back : (n : ℕ) (b : SideChoice) → selected Taker Maker n ≡ Some b → side_number b ≡ n
-side_back n b h = grind (arith, nat_tests)
+-- what a field selects has that field's number
+pub selected_back : {A : Type 0} (number : A → ℕ) (zeroth first : A) → number zeroth ≡ 0 → number first ≡ 1 → (n : ℕ) (a : A) → selected zeroth first n ≡ Some a → number a ≡ n
+selected_back number zeroth first e f n a h = grind (arith, nat_tests)
 
 -- a record of each kind, over plain numbers
 terms_words : (o : Option CurveChoice) (p : Option OrderChoice) (x y z a b : ℕ) (i : Item)
@@ -80,30 +75,24 @@ four_values bytes at = simp add_assoc
 module _ (bytes : List ℕ) (at : ℕ) (i : Item) where
   terms_made : kind_at bytes at ≡ 1 → terms_at bytes at ≡ Some i → Made bytes at 4 0 i
   terms_made k h =
-      let w = terms_words (selected Straight Stepped (value_at bytes (at + 3))) (selected ByRule ByName (value_at bytes (at + 4))) (value_at bytes at) (value_at bytes (at + 1)) (value_at bytes (at + 2)) (value_at bytes (at + 3)) (value_at bytes (at + 4)) i (curve_back (value_at bytes (at + 3))) (order_back (value_at bytes (at + 4))) h in
+      let w = terms_words (selected Straight Stepped (value_at bytes (at + 3))) (selected ByRule ByName (value_at bytes (at + 4))) (value_at bytes at) (value_at bytes (at + 1)) (value_at bytes (at + 2)) (value_at bytes (at + 3)) (value_at bytes (at + 4)) i (selected_back curve_number Straight Stepped refl refl (value_at bytes (at + 3))) (selected_back order_number ByRule ByName refl refl (value_at bytes (at + 4))) h in
       let f = four_values bytes at in
       record { words_are = cc w.0; tail_is = w.1 }
 
-  corner_made : kind_at bytes at ≡ 2 → corner_at bytes at ≡ Some i → Made bytes at 1 0 i
-  corner_made k h =
-      let e : corner (record { quantity = value_at bytes at; price = value_at bytes (at + 1) }) ≡ i = cc in
-      record { words_are = sym (ap words_of e) ∙ ap (λ (n : ℕ). head n (value_at bytes at) ∷ (value_at bytes (at + 1) ∷ [])) (sym k); tail_is = sym (ap tail_of e) }
+  -- a record of two words
+  pair_made : (n : ℕ) (item : ℕ → ℕ → Item) → ((x y : ℕ) → words_of (item x y) ≡ head n x ∷ (y ∷ [])) → ((x y : ℕ) → tail_of (item x y) ≡ [])
+      → kind_at bytes at ≡ n → Some (item (value_at bytes at) (value_at bytes (at + 1))) ≡ Some i → Made bytes at 1 0 i
+  pair_made n item ws ts k h =
+      let x = value_at bytes at in
+      let y = value_at bytes (at + 1) in
+      let e : item x y ≡ i = cc in
+      record { words_are = sym (ap words_of e) ∙ ws x y ∙ ap (λ (m : ℕ). head m x ∷ (y ∷ [])) (sym k); tail_is = sym (ap tail_of e) ∙ ts x y }
 
   unit_made : kind_at bytes at ≡ 3 → unit_at bytes at ≡ Some i → Made bytes at 4 8 i
   unit_made k h =
-      let w = unit_words (selected Taker Maker (value_at bytes (at + 2))) (value_at bytes at) (value_at bytes (at + 1)) (value_at bytes (at + 2)) (value_at bytes (at + 3)) (value_at bytes (at + 4)) (name_at bytes (at + 5)) i (side_back (value_at bytes (at + 2))) h in
+      let w = unit_words (selected Taker Maker (value_at bytes (at + 2))) (value_at bytes at) (value_at bytes (at + 1)) (value_at bytes (at + 2)) (value_at bytes (at + 3)) (value_at bytes (at + 4)) (name_at bytes (at + 5)) i (selected_back side_number Taker Maker refl refl (value_at bytes (at + 2))) h in
       let f = four_values bytes at in
       record { words_are = cc w.0; tail_is = w.1 }
-
-  exit_made : kind_at bytes at ≡ 4 → exit_at bytes at ≡ Some i → Made bytes at 1 0 i
-  exit_made k h =
-      let e : exit (record { unit = value_at bytes at; price = value_at bytes (at + 1) }) ≡ i = cc in
-      record { words_are = sym (ap words_of e) ∙ ap (λ (n : ℕ). head n (value_at bytes at) ∷ (value_at bytes (at + 1) ∷ [])) (sym k); tail_is = sym (ap tail_of e) }
-
-  years_made : kind_at bytes at ≡ 5 → years_at bytes at ≡ Some i → Made bytes at 1 0 i
-  years_made k h =
-      let e : years (record { unit = value_at bytes at; years = value_at bytes (at + 1) }) ≡ i = cc in
-      record { words_are = sym (ap words_of e) ∙ ap (λ (n : ℕ). head n (value_at bytes at) ∷ (value_at bytes (at + 1) ∷ [])) (sym k); tail_is = sym (ap tail_of e) }
 
   bare_made : (item : Item) (n : ℕ) → words_of item ≡ head n 0 ∷ [] → tail_of item ≡ [] → kind_at bytes at ≡ n → bare_at item bytes at ≡ Some i → Made bytes at 0 0 i
   bare_made item n ws ts k h =
@@ -126,10 +115,10 @@ stands bytes at i small known whole is =
     let same = found_kind bytes at i known is in
     elim (item_chosen bytes at i known is) [
       | one k h ↦ by_kind bytes at i small room parts.1 same 1 4 0 k refl refl (omega arith) (terms_made bytes at i k h)
-      | two k h ↦ by_kind bytes at i small room parts.1 same 2 1 0 k refl refl (omega arith) (corner_made bytes at i k h)
+      | two k h ↦ by_kind bytes at i small room parts.1 same 2 1 0 k refl refl (omega arith) (pair_made bytes at i 2 (λ x y. corner (record { quantity = x; price = y })) (λ x y. refl) (λ x y. refl) k h)
       | three k h ↦ by_kind bytes at i small room parts.1 same 3 4 8 k refl refl (omega arith) (unit_made bytes at i k h)
-      | four k h ↦ by_kind bytes at i small room parts.1 same 4 1 0 k refl refl (omega arith) (exit_made bytes at i k h)
-      | five k h ↦ by_kind bytes at i small room parts.1 same 5 1 0 k refl refl (omega arith) (years_made bytes at i k h)
+      | four k h ↦ by_kind bytes at i small room parts.1 same 4 1 0 k refl refl (omega arith) (pair_made bytes at i 4 (λ x y. exit (record { unit = x; price = y })) (λ x y. refl) (λ x y. refl) k h)
+      | five k h ↦ by_kind bytes at i small room parts.1 same 5 1 0 k refl refl (omega arith) (pair_made bytes at i 5 (λ x y. years (record { unit = x; years = y })) (λ x y. refl) (λ x y. refl) k h)
       | six k h ↦ by_kind bytes at i small room parts.1 same 6 0 0 k refl refl (omega arith) (bare_made bytes at i step_back 6 refl refl k h)
       | seven k h ↦ by_kind bytes at i small room parts.1 same 7 0 0 k refl refl (omega arith) (bare_made bytes at i close 7 refl refl k h)
     ]
