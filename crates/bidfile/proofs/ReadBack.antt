@@ -191,14 +191,8 @@ unit_again : (x y : ℕ) (m : SideChoice) (z w : ℕ) (name : List ℕ)
 unit_again x y Taker z w name = refl
 unit_again x y Maker z w name = refl
 
-abbrev corner_of : ℕ → List ℕ → Option Item
-corner_of x ws = Some (corner (record { quantity = x; price = get_or ws 0 0 }))
-
-abbrev exit_of : ℕ → List ℕ → Option Item
-exit_of x ws = Some (exit (record { unit = x; price = get_or ws 0 0 }))
-
-abbrev years_of : ℕ → List ℕ → Option Item
-years_of x ws = Some (years (record { unit = x; years = get_or ws 0 0 }))
+abbrev pair_of : (ℕ → ℕ → Item) → ℕ → List ℕ → Option Item
+pair_of item x ws = Some (item x (get_or ws 0 0))
 
 curve_small : (c : CurveChoice) → curve_number c < 268435456
 curve_small Straight = omega arith
@@ -245,26 +239,28 @@ module _ (bytes : List ℕ) (at : ℕ) (more : List ℕ) where
       let f = four_values bytes at in
       item_by bytes at 1 k ∙ (ap (terms_of (value_at bytes at)) (sym f ∙ vs) ∙ (ap (λ (x : ℕ). terms_of x (t.spread ∷ (t.threshold ∷ (curve_number t.curve ∷ (order_number t.order ∷ []))))) v ∙ terms_again t.«cap» t.spread t.threshold t.curve t.order)))
 
+  -- a record of two words
+  pair_found : (item : ℕ → ℕ → Item) (x y : ℕ) → Written (item x y) x (y ∷ [])
+      → (kind_at bytes at ≡ item_kind (item x y) → item_at bytes at ≡ pair_of item (value_at bytes at) (values_from 1 bytes (at + 1)))
+      → drop (4 * at) bytes ≡ layout (item x y) ++ more → FoundAgain bytes at (item x y) more
+  pair_found item x y w picks h =
+      again (item x y) x (y ∷ []) w h
+      (λ k v vs past. picks k ∙ (ap (pair_of item (value_at bytes at)) vs ∙ ap (λ (z : ℕ). pair_of item z (y ∷ [])) v))
+
   corner_found : (c : Corner) → Fits (corner c) → drop (4 * at) bytes ≡ layout (corner c) ++ more → FoundAgain bytes at (corner c) more
   corner_found c fits h =
-      let all = fits.values in
-      again (corner c) c.quantity (c.price ∷ [])
-      (record { words_are = refl; value = all.0; few = omega arith; small = (all.1.0, tt); count = refl; long = refl })
-      h (λ k v vs past. item_by bytes at 2 k ∙ (ap (corner_of (value_at bytes at)) vs ∙ ap (λ (x : ℕ). corner_of x (c.price ∷ [])) v))
+      pair_found (λ x y. corner (record { quantity = x; price = y })) c.quantity c.price
+      (record { words_are = refl; value = fits.values.0; few = omega arith; small = (fits.values.1.0, tt); count = refl; long = refl }) (item_by bytes at 2) h
 
   exit_found : (e : ExitRecord) → Fits (exit e) → drop (4 * at) bytes ≡ layout (exit e) ++ more → FoundAgain bytes at (exit e) more
   exit_found e fits h =
-      let all = fits.values in
-      again (exit e) e.unit (e.price ∷ [])
-      (record { words_are = refl; value = all.0; few = omega arith; small = (all.1.0, tt); count = refl; long = refl })
-      h (λ k v vs past. item_by bytes at 4 k ∙ (ap (exit_of (value_at bytes at)) vs ∙ ap (λ (x : ℕ). exit_of x (e.price ∷ [])) v))
+      pair_found (λ x y. exit (record { unit = x; price = y })) e.unit e.price
+      (record { words_are = refl; value = fits.values.0; few = omega arith; small = (fits.values.1.0, tt); count = refl; long = refl }) (item_by bytes at 4) h
 
   years_found : (y : YearsRecord) → Fits (years y) → drop (4 * at) bytes ≡ layout (years y) ++ more → FoundAgain bytes at (years y) more
   years_found y fits h =
-      let all = fits.values in
-      again (years y) y.unit (y.years ∷ [])
-      (record { words_are = refl; value = all.0; few = omega arith; small = (all.1.0, tt); count = refl; long = refl })
-      h (λ k v vs past. item_by bytes at 5 k ∙ (ap (years_of (value_at bytes at)) vs ∙ ap (λ (x : ℕ). years_of x (y.years ∷ [])) v))
+      pair_found (λ x z. years (record { unit = x; years = z })) y.unit y.years
+      (record { words_are = refl; value = fits.values.0; few = omega arith; small = (fits.values.1.0, tt); count = refl; long = refl }) (item_by bytes at 5) h
 
   unit_found : (u : UnitItem) → Fits (unit u) → drop (4 * at) bytes ≡ layout (unit u) ++ more → FoundAgain bytes at (unit u) more
   unit_found u fits h =
