@@ -2,11 +2,12 @@ ghost use Rattle.std.specs.Prelude.{◌≡◌, ◌+◌, ◌<◌, ◌≤◌, []};
 ghost use Rattle.curve.specs.Questions.{refused, first_no};
 ghost use Rattle.bidfile.specs.Found.{found, found_at, item_at, handed, length_questions};
 ghost use Rattle.bidfile.specs.Reading.{fault_number, told, told_one, told_record, asked, read_out, Laid, Moved, TakenOrNot, There, WholeFile};
-ghost use Rattle.bidfile.specs.Items.{size};
+ghost use Rattle.bidfile.specs.Items.{kind_number, size};
 ghost use Rattle.bidfile.specs.Words.{words};
 
 use crate::fault::{FileFault, FileQuestion};
 use crate::head::Head;
+use crate::kind::Kind;
 use crate::records::{Due, Placed, Record};
 use crate::words::count;
 
@@ -76,6 +77,16 @@ impl<'a> Reader<'a> {
         }
     }
 
+    // Goes on behind a record of a kind.
+    fn pass(&mut self, kind: Kind)
+        requires { self.old.at + size (kind_number kind) ≤ words self.old.file.now }
+        ensures file { self.new.file ≡ self.old.file }
+        ensures bytes { self.new.file.now ≡ self.old.file.now }
+        ensures place { self.new.at ≡ self.old.at + size (kind_number kind) }
+    {
+        self.at += kind.size();
+    }
+
     // The next record, where those that are due are in turn, or none at the end.
     pub fn next(&mut self, due: Due) -> Result<Option<Placed<'a>>, FileFault>
         ensures answer { told result ≡ handed due (found self.old.file.now self.old.at) }
@@ -88,7 +99,7 @@ impl<'a> Reader<'a> {
             return end(due);
         }
         let placed = take(self.file, self.at, due)?;
-        self.at += placed.record.kind().size();
+        self.pass(placed.record.kind());
         Ok(Some(placed))
     }
 }

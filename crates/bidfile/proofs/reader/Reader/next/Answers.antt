@@ -19,7 +19,7 @@ pub returns-clause-place : goal.returns-clause-place
 returns-clause-place c =
     let taken = c.in_ok-placed.ensures.taken in
     moves c.args.self.now.file.now c.args.self.now.at _ c.in_ok-placed.placed (omega arith) taken
-    (ap (λ (n : ℕ). c.args.self.now.at + n) (c.size.ensures ∙ ap size (c.kind.ensures (λ name. name.now) ∙ taken.kind)))
+    (c.pass.ensures.place ∙ ap (λ (k : ℕ). c.args.self.now.at + size k) (c.kind.ensures (λ name. name.now) ∙ taken.kind))
 
 pub returns-clause-laid : goal.returns-clause-laid
 returns-clause-laid c = lies c.args.self.now.file.now c.args.self.now.at c.in_ok-placed.placed c.in_ok-placed.ensures.taken
