@@ -1,9 +1,8 @@
 -- The fields of a line that is written field by field, and what numbers, words and classes are read as. Assumes nothing.
-use Rattle.std.proofs.Common.{◌≡◌, ℕ, ◌<◌, true, false, eqb, ltb, leb, List, [], ◌∷◌, ◌++◌, length, Ok, codes, decimal, sym, refl, ap, ◌∙◌, subst, ⊎_elim, arith, rules}
-use Rattle.bidtext.specs.declared.letters.Letter.{Letter}
-use Rattle.bidtext.specs.declared.letters.Letter.TheVariants.{Inner, Digit}
-use Rattle.bidtext.specs.Fields.{onto, pieces, filled, fields}
-use Rattle.bidtext.specs.Letters.{is_letter, every}
+use Rattle.std.proofs.Common.{◌≡◌, ℕ, Bool, ◌<◌, true, false, eqb, ltb, leb, List, [], ◌∷◌, ◌++◌, length, Ok, codes, decimal, sym, refl, ap, ◌∙◌, subst, ⊎_elim, arith, rules}
+use Rattle.bidtext.specs.Letters.{inner, digit}
+use Rattle.std.specs.List.{list_all, onto_first}
+use Rattle.bidtext.specs.Fields.{pieces, filled, fields}
 use Rattle.bidtext.specs.Texts.{class_word}
 use Rattle.bidtext.specs.Values.{value_after, value_of, numeral, number_in, class_in}
 use Rattle.bidtext.proofs.Pieces.{pieces_letter}
@@ -16,22 +15,22 @@ use Rattle.std.specs.Str.{bytes_eq}
 -- bytes that stand in a field
 pub record Field (w : List ℕ) : Type 0 where
   pub some : 0 < length w
-  pub whole : every Inner w ≡ true
+  pub whole : list_all inner w ≡ true
 
-pieces_field : (b : ℕ) (bs : List ℕ) → is_letter Inner b ≡ true → pieces (b ∷ bs) ≡ onto b (pieces bs)
+pieces_field : (b : ℕ) (bs : List ℕ) → inner b ≡ true → pieces (b ∷ bs) ≡ onto_first b (pieces bs)
 pieces_field b bs e = pieces_letter b bs (grind (arith, nat_tests)) (grind (arith, nat_tests))
 
-pieces_then : (w rest : List ℕ) → every Inner w ≡ true → pieces (w ++ (32 ∷ rest)) ≡ w ∷ pieces rest
+pieces_then : (w rest : List ℕ) → list_all inner w ≡ true → pieces (w ++ (32 ∷ rest)) ≡ w ∷ pieces rest
 pieces_then [] rest all = refl
 pieces_then (b ∷ w) rest all =
-    let p = and_parts (is_letter Inner b) (every Inner w) all in
-    pieces_field b (w ++ (32 ∷ rest)) p.0 ∙ ap (onto b) (pieces_then w rest p.1)
+    let p = and_parts (inner b) (list_all inner w) all in
+    pieces_field b (w ++ (32 ∷ rest)) p.0 ∙ ap (onto_first b) (pieces_then w rest p.1)
 
-pieces_last : (w : List ℕ) → every Inner w ≡ true → pieces w ≡ w ∷ []
+pieces_last : (w : List ℕ) → list_all inner w ≡ true → pieces w ≡ w ∷ []
 pieces_last [] all = refl
 pieces_last (b ∷ w) all =
-    let p = and_parts (is_letter Inner b) (every Inner w) all in
-    pieces_field b w p.0 ∙ ap (onto b) (pieces_last w p.1)
+    let p = and_parts (inner b) (list_all inner w) all in
+    pieces_field b w p.0 ∙ ap (onto_first b) (pieces_last w p.1)
 
 filled_more : (w : List ℕ) (ps : List (List ℕ)) → 0 < length w → filled (w ∷ ps) ≡ w ∷ filled ps
 filled_more [] ps some = absurd (omega arith)
@@ -48,28 +47,28 @@ pub fields_last : (w : List ℕ) → Field w → fields w ≡ w ∷ []
 unfolding fields
 fields_last w f = ap filled (pieces_last w f.whole) ∙ filled_more w [] f.some
 
-pub every_inner : (kind : Letter) (bs : List ℕ) → ((b : ℕ) → is_letter kind b ≡ true → is_letter Inner b ≡ true) → every kind bs ≡ true → every Inner bs ≡ true
+pub every_inner : (kind : ℕ → Bool) (bs : List ℕ) → ((b : ℕ) → kind b ≡ true → inner b ≡ true) → list_all kind bs ≡ true → list_all inner bs ≡ true
 every_inner kind [] h all = refl
 every_inner kind (b ∷ bs) h all =
-    let p = and_parts (is_letter kind b) (every kind bs) all in
-    and_from (is_letter Inner b) (every Inner bs) (h b p.0) (every_inner kind bs h p.1)
+    let p = and_parts (kind b) (list_all kind bs) all in
+    and_from (inner b) (list_all inner bs) (h b p.0) (every_inner kind bs h p.1)
 
-pub digit_inner : (b : ℕ) → is_letter Digit b ≡ true → is_letter Inner b ≡ true
+pub digit_inner : (b : ℕ) → digit b ≡ true → inner b ≡ true
 digit_inner b e = grind (arith, nat_tests)
 
-own : IsNumeralModel (λ ds. every Digit ds ≡ true) (value_after 0)
+own : IsNumeralModel (λ ds. list_all digit ds ≡ true) (value_after 0)
 own = numerals_by_fold _ (search rules) value_after (search rules)
 
-pub decimal_digits : (n : ℕ) → n < 268435456 → every Digit (decimal n) ≡ true
+pub decimal_digits : (n : ℕ) → n < 268435456 → list_all digit (decimal n) ≡ true
 decimal_digits n h = digits_decimal own n (omega arith)
 
 pub decimal_field : (n : ℕ) → n < 268435456 → Field (decimal n)
 decimal_field n h =
-    record { some = decimal_nonempty n (omega arith); whole = every_inner Digit (decimal n) digit_inner (decimal_digits n h) }
+    record { some = decimal_nonempty n (omega arith); whole = every_inner digit (decimal n) digit_inner (decimal_digits n h) }
 
 numeral_decimal : (n : ℕ) → n < 268435456 → numeral (decimal n) ≡ true
 numeral_decimal n h =
-    and_from (leb 1 (length (decimal n))) (every Digit (decimal n)) (le-leb 1 (length (decimal n)) (decimal_nonempty n (omega arith))) (decimal_digits n h)
+    and_from (leb 1 (length (decimal n))) (list_all digit (decimal n)) (le-leb 1 (length (decimal n)) (decimal_nonempty n (omega arith))) (decimal_digits n h)
 
 -- a number is read as itself
 pub number_reads : (n : ℕ) → n < 268435456 → number_in (decimal n) ≡ Ok n
@@ -82,10 +81,10 @@ number_reads n h =
     ∙ ap (λ (x : ℕ). Ok x) v
 
 -- digits are no word
-not_word : (f : List ℕ) (b : ℕ) (w : List ℕ) → every Digit f ≡ true → 57 < b → bytes_eq f (b ∷ w) ≡ false
+not_word : (f : List ℕ) (b : ℕ) (w : List ℕ) → list_all digit f ≡ true → 57 < b → bytes_eq f (b ∷ w) ≡ false
 not_word [] b w all h = refl
 not_word (d ∷ f) b w all h =
-    let p = (and_parts (is_letter Digit d) (every Digit f) all).0 in
+    let p = (and_parts (digit d) (list_all digit f) all).0 in
     grind (arith, nat_tests)
 
 abbrev ClassRead : ℕ → Type 0
@@ -118,7 +117,7 @@ by_class P n p q r s t =
 pub class_reads : (n : ℕ) → n < 268435456 → class_in (class_word n) ≡ Ok n
 class_reads n h = by_class (λ (k : ℕ) (w : List ℕ). class_in w ≡ Ok k) n refl refl refl refl (class_number n h)
 
-pub word : (w : List ℕ) → every Inner w ≡ true → 0 < length w → Field w
+pub word : (w : List ℕ) → list_all inner w ≡ true → 0 < length w → Field w
 word w e some = record { some = some; whole = e }
 
 pub class_field : (n : ℕ) → n < 268435456 → Field (class_word n)

@@ -1,4 +1,3 @@
-pub mod LetterCounts
 pub mod Pieces
 pub mod Numbers
 pub mod NameFields

@@ -1,5 +1,6 @@
 -- The lines of records are read as these records. Assumes nothing.
-use Rattle.std.proofs.Common.{◌≡◌, ℕ, ◌+◌, ◌<◌, true, false, eqb, List, [], ◌∷◌, ◌++◌, take, Ok, Err, vec_items, codes, decimal, Result, Vec, sym, refl, ap, ◌∙◌, subst, append_assoc, arith}
+use Rattle.std.proofs.Common.{◌≡◌, ℕ, Bool, ◌+◌, ◌<◌, true, false, eqb, List, [], ◌∷◌, ◌++◌, take, Ok, Err, vec_items, codes, decimal, Result, Vec, sym, refl, ap, ◌∙◌, subst, append_assoc, arith}
+use Rattle.bidtext.specs.Letters.{unbroken, digit, hexadecimal, mark}
 use Rattle.bidfile.specs.declared.records.CurveChoice.{CurveChoice}
 use Rattle.bidfile.specs.declared.records.CurveChoice.TheVariants.{Straight, Stepped}
 use Rattle.bidfile.specs.declared.records.OrderChoice.{OrderChoice}
@@ -11,12 +12,9 @@ use Rattle.bidfile.specs.Layout.{Fits}
 use Rattle.bidtext.specs.declared.expected.Expected.{Expected}
 use Rattle.bidtext.specs.declared.faults.TextFault.{TextFault}
 use Rattle.bidtext.specs.declared.faults.TextFault.TheVariants as fault
-use Rattle.bidtext.specs.declared.letters.Letter.{Letter}
-use Rattle.bidtext.specs.declared.letters.Letter.TheVariants.{Line, Digit, Hex, Mark}
-use Rattle.bidtext.specs.Fields.{onto, fields}
+use Rattle.bidtext.specs.Fields.{fields}
 use Rattle.bidtext.specs.Files.{rows, listed, line_items, then_lines, items_from, text_items, WordsOf, TextRead, TextOf}
 use Rattle.bidtext.specs.Kept.{text_line}
-use Rattle.bidtext.specs.Letters.{is_letter, every}
 use Rattle.bidtext.specs.Lines.{line_record}
 use Rattle.bidtext.specs.Texts.{curve_word, order_word, side_word, class_word, hex_pair, marks, is_plain, name_word, line_text}
 use Rattle.bidtext.specs.WholeTrip.{LinesRead}
@@ -27,26 +25,26 @@ use Rattle.bidtext.proofs.NameTexts.{every_first}
 use Rattle.std.proofs.lemmas.Bool.{cond-false, cond_both, and_parts, and_from}
 use Rattle.std.proofs.lemmas.Bool.Decides.{nat_tests}
 use Rattle.std.specs.declared.alloc.Global.{Global}
-use Rattle.std.specs.List.{flat_map, AllByRecursion}
+use Rattle.std.specs.List.{flat_map, AllByRecursion, list_all, onto_first}
 
 -- bytes without a newline
 abbrev Even : List ℕ → Type 0
-Even bs = every Line bs ≡ true
+Even bs = list_all unbroken bs ≡ true
 
-even_of : (kind : Letter) (bs : List ℕ) → ((b : ℕ) → is_letter kind b ≡ true → is_letter Line b ≡ true) → every kind bs ≡ true → Even bs
+even_of : (kind : ℕ → Bool) (bs : List ℕ) → ((b : ℕ) → kind b ≡ true → unbroken b ≡ true) → list_all kind bs ≡ true → Even bs
 even_of kind [] h all = refl
 even_of kind (b ∷ bs) h all =
-    let p = and_parts (is_letter kind b) (every kind bs) all in
-    and_from (is_letter Line b) (every Line bs) (h b p.0) (even_of kind bs h p.1)
+    let p = and_parts (kind b) (list_all kind bs) all in
+    and_from (unbroken b) (list_all unbroken bs) (h b p.0) (even_of kind bs h p.1)
 
 even_append : (xs ys : List ℕ) → Even xs → Even ys → Even (xs ++ ys)
 even_append [] ys p q = q
 even_append (x ∷ xs) ys p q =
-    let h = and_parts (is_letter Line x) (every Line xs) p in
-    and_from (is_letter Line x) (every Line (xs ++ ys)) h.0 (even_append xs ys h.1 q)
+    let h = and_parts (unbroken x) (list_all unbroken xs) p in
+    and_from (unbroken x) (list_all unbroken (xs ++ ys)) h.0 (even_append xs ys h.1 q)
 
 even_number : (n : ℕ) → n < 268435456 → Even (decimal n)
-even_number n h = even_of Digit (decimal n) (λ b e. grind (arith, nat_tests)) (decimal_digits n h)
+even_number n h = even_of digit (decimal n) (λ b e. grind (arith, nat_tests)) (decimal_digits n h)
 
 even_class : (n : ℕ) → n < 268435456 → Even (class_word n)
 even_class n h = by_class (λ (k : ℕ) (w : List ℕ). Even w) n refl refl refl refl (even_number n h)
@@ -67,8 +65,8 @@ even_name : (bs : List ℕ) → AllByRecursion (λ b. b < 256) bs → Even (name
 unfolding name_word
 even_name bs small =
     cond_both (is_plain bs) (take (marks bs) bs) (codes "hex:" ++ flat_map hex_pair bs) Even
-    (λ _. even_of Mark (take (marks bs) bs) (λ b e. grind (arith, nat_tests)) (every_first Mark bs))
-    (λ _. even_of Hex (flat_map hex_pair bs) (λ b e. grind (arith, nat_tests)) (pairs_hex bs small))
+    (λ _. even_of mark (take (marks bs) bs) (λ b e. grind (arith, nat_tests)) (every_first mark bs))
+    (λ _. even_of hexadecimal (flat_map hex_pair bs) (λ b e. grind (arith, nat_tests)) (pairs_hex bs small))
 
 even_pair : (x y : ℕ) → x < 268435456 → y < 268435456 → Even (decimal x ++ (32 ∷ decimal y))
 even_pair x y a b = even_append (decimal x) (32 ∷ decimal y) (even_number x a) (even_number y b)
@@ -95,9 +93,9 @@ even_line close f = refl
 rows_then : (w rest : List ℕ) → Even w → rows (w ++ (10 ∷ rest)) ≡ w ∷ rows rest
 rows_then [] rest e = refl
 rows_then (b ∷ w) rest e =
-    let p = and_parts (is_letter Line b) (every Line w) e in
+    let p = and_parts (unbroken b) (list_all unbroken w) e in
     let other : eqb b 10 ≡ false = grind (arith, nat_tests) in
-    cond-false (eqb b 10) ([] ∷ rows (w ++ (10 ∷ rest))) (onto b (rows (w ++ (10 ∷ rest)))) other ∙ ap (onto b) (rows_then w rest p.1)
+    cond-false (eqb b 10) ([] ∷ rows (w ++ (10 ∷ rest))) (onto_first b (rows (w ++ (10 ∷ rest)))) other ∙ ap (onto_first b) (rows_then w rest p.1)
 
 no_line : line_items [] ≡ Ok []
 unfolding line_record fields

@@ -1,16 +1,14 @@
 -- Names as they are written. Assumes nothing.
 use Rattle.std.proofs.Common.{◌≡◌, ℕ, zero, suc, ◌+◌, ◌/◌, ◌%◌, ◌<◌, ◌≤◌, Bool, true, false, not, ◌&&◌, List, [], ◌∷◌, ◌++◌, length, get_or, take, drop, IsAscii, sym, refl, ap, ◌∙◌, subst, append_assoc, append-nil, one-add, arith}
+use Rattle.bidtext.specs.Letters.{mark}
 use lib.Utf8.{encode}
-use Rattle.bidtext.specs.declared.letters.Letter.{Letter}
-use Rattle.bidtext.specs.declared.letters.Letter.TheVariants.{Mark}
-use Rattle.bidtext.specs.Letters.{is_letter, every}
 use Rattle.bidtext.specs.Texts.{hex_digit, hex_pair, marks}
 use Rattle.bidtext.proofs.Pieces.{lead}
 use Rattle.std.proofs.lemmas.Str.Ascii.{encode_ascii}
 use Rattle.std.proofs.lemmas.List.{at_drop_more, at_drop_all}
 use Rattle.std.proofs.lemmas.Bool.{cond_both, and_parts, and_from, true≢false, false≢true}
 use Rattle.std.proofs.lemmas.Bool.Decides.{nat_tests}
-use Rattle.std.specs.List.{flat_map}
+use Rattle.std.specs.List.{flat_map, list_all}
 
 -- a name that is not hexadecimal and has a mark is plain where the rest is padding
 pub plain_rest : (h m e : Bool) → h ≡ false → m ≡ true → (not h && (m && e)) ≡ e
@@ -19,20 +17,20 @@ plain_rest false true e p q = refl
 plain_rest false false e p q = absurd (false≢true q)
 
 -- the bytes of a kind that come first are of that kind
-pub every_first : (kind : Letter) (bs : List ℕ) → every kind (take (lead kind bs) bs) ≡ true
+pub every_first : (kind : ℕ → Bool) (bs : List ℕ) → list_all kind (take (lead kind bs) bs) ≡ true
 every_first kind [] = refl
 every_first kind (b ∷ bs) =
-    cond_both (is_letter kind b) (1 + lead kind bs) 0 (λ (n : ℕ). every kind (take n (b ∷ bs)) ≡ true)
-    (λ e. ap (λ (n : ℕ). every kind (take n (b ∷ bs))) (one-add (lead kind bs)) ∙ and_from (is_letter kind b) (every kind (take (lead kind bs) bs)) e (every_first kind bs))
+    cond_both (kind b) (1 + lead kind bs) 0 (λ (n : ℕ). list_all kind (take n (b ∷ bs)) ≡ true)
+    (λ e. ap (λ (n : ℕ). list_all kind (take n (b ∷ bs))) (one-add (lead kind bs)) ∙ and_from (kind b) (list_all kind (take (lead kind bs) bs)) e (every_first kind bs))
     (λ e. refl)
 
-pub marks_small : (bs : List ℕ) → every Mark bs ≡ true → IsAscii bs
+pub marks_small : (bs : List ℕ) → list_all mark bs ≡ true → IsAscii bs
 marks_small [] all i = omega arith
-marks_small (b ∷ bs) all zero = let m = (and_parts (is_letter Mark b) (every Mark bs) all).0 in grind (arith, nat_tests)
-marks_small (b ∷ bs) all (suc i) = marks_small bs (and_parts (is_letter Mark b) (every Mark bs) all).1 i
+marks_small (b ∷ bs) all zero = let m = (and_parts (mark b) (list_all mark bs) all).0 in grind (arith, nat_tests)
+marks_small (b ∷ bs) all (suc i) = marks_small bs (and_parts (mark b) (list_all mark bs) all).1 i
 
 pub first_small : (name : List ℕ) (n : ℕ) → n ≡ marks name → IsAscii (take n name)
-first_small name n e = subst (λ (k : ℕ). IsAscii (take k name)) (sym e) (marks_small (take (marks name) name) (every_first Mark name))
+first_small name n e = subst (λ (k : ℕ). IsAscii (take k name)) (sym e) (marks_small (take (marks name) name) (every_first mark name))
 
 pub hex_digit_small : (d : ℕ) → d < 16 → hex_digit d < 128
 hex_digit_small d h = grind (arith, nat_tests)

@@ -1,5 +1,6 @@
 -- A record that was read can be written. Assumes nothing.
 use Rattle.std.proofs.Common.{◌≡◌, ℕ, ◌+◌, ◌*◌, ◌<◌, true, ◌&&◌, eqb, ltb, leb, List, length, get_or, drop, Some, None, Ok, Err, codes, Result, refl, ⊎_elim, arith}
+use Rattle.bidtext.specs.Letters.{hexadecimal, mark}
 use Rattle.bidfile.specs.declared.records.Record.{Record}
 use Rattle.bidfile.specs.declared.records.Record.TheVariants as own
 use Rattle.bidfile.specs.declared.records.Record.TheVariants.{Terms, Corner, Exit, Years, StepBack, Close}
@@ -7,9 +8,7 @@ use Rattle.bidfile.specs.Items.{terms, corner, exit, years}
 use Rattle.bidfile.specs.Layout.{Fits}
 use Rattle.bidtext.specs.declared.expected.Expected.{Expected}
 use Rattle.bidtext.specs.declared.expected.Expected.TheVariants as expected
-use Rattle.bidtext.specs.declared.letters.Letter.TheVariants.{Hex, Mark}
 use Rattle.bidtext.specs.Fields.{fields, field_at}
-use Rattle.bidtext.specs.Letters.{every}
 use Rattle.bidtext.specs.Lines.{and_then, labelled, terms_line, pair_line, corner_line, unit_line, exit_line, years_line, entry_in, record_in, line_record}
 use Rattle.bidtext.specs.Names.{padded, is_hexed, hex_byte, hex_name, plain_name, name_in}
 use Rattle.bidtext.specs.RoundTrip.{own_item, Fitting}
@@ -18,7 +17,7 @@ use Rattle.bidtext.proofs.NameFields.{every_at, hex_small}
 use Rattle.std.proofs.lemmas.List.{get_or_default, get_or_past}
 use Rattle.std.proofs.lemmas.Bool.{cond_both, and_parts, eqb-true, cases_lt}
 use Rattle.std.proofs.lemmas.Bool.Decides.{nat_tests}
-use Rattle.std.specs.List.{AllByRecursion}
+use Rattle.std.specs.List.{AllByRecursion, list_all}
 use Rattle.std.specs.Str.{bytes_eq}
 
 -- what holds of a part that was read, if it was read
@@ -60,30 +59,30 @@ labelled_small fs place word e =
 abbrev NamedBytes : List ℕ → Type 0
 NamedBytes bs = (length bs ≡ 8) × AllByRecursion (λ b. b < 256) bs
 
-mark_at : (f : List ℕ) (k : ℕ) → every Mark f ≡ true → get_or f k 32 < 256
+mark_at : (f : List ℕ) (k : ℕ) → list_all mark f ≡ true → get_or f k 32 < 256
 mark_at f k all =
     ⊎_elim
-    (λ (lt : k < length f). let m = every_at Mark f k all lt in let same = get_or_default f k 32 0 lt in let small : get_or f k 0 < 256 = grind (arith, nat_tests) in omega arith)
+    (λ (lt : k < length f). let m = every_at mark f k all lt in let same = get_or_default f k 32 0 lt in let small : get_or f k 0 < 256 = grind (arith, nat_tests) in omega arith)
     (λ past. let same = get_or_past f k 32 past in omega arith) (cases_lt k (length f))
 
 plain_named : (f : List ℕ) → IfRead NamedBytes (plain_name f)
 plain_named f =
-    cond_both (leb 1 (length f) && (leb (length f) 8 && every Mark f)) (Ok (padded f)) (Err expected.Name) (IfRead NamedBytes)
+    cond_both (leb 1 (length f) && (leb (length f) 8 && list_all mark f)) (Ok (padded f)) (Err expected.Name) (IfRead NamedBytes)
     (λ e.
-    let all = (and_parts (leb (length f) 8) (every Mark f) (and_parts (leb 1 (length f)) (leb (length f) 8 && every Mark f) e).1).1 in
+    let all = (and_parts (leb (length f) 8) (list_all mark f) (and_parts (leb 1 (length f)) (leb (length f) 8 && list_all mark f) e).1).1 in
     (refl, (mark_at f 0 all, (mark_at f 1 all, (mark_at f 2 all, (mark_at f 3 all, (mark_at f 4 all, (mark_at f 5 all, (mark_at f 6 all, (mark_at f 7 all, tt)))))))))) (λ _. tt)
 
-hex_at : (ds : List ℕ) (k : ℕ) → 2 * k + 1 < length ds → every Hex ds ≡ true → hex_byte ds k < 256
+hex_at : (ds : List ℕ) (k : ℕ) → 2 * k + 1 < length ds → list_all hexadecimal ds ≡ true → hex_byte ds k < 256
 hex_at ds k lt all =
-    let high = hex_small (get_or ds (2 * k) 0) (every_at Hex ds (2 * k) all (omega arith)) in
-    let low = hex_small (get_or ds (2 * k + 1) 0) (every_at Hex ds (2 * k + 1) all lt) in
+    let high = hex_small (get_or ds (2 * k) 0) (every_at hexadecimal ds (2 * k) all (omega arith)) in
+    let low = hex_small (get_or ds (2 * k + 1) 0) (every_at hexadecimal ds (2 * k + 1) all lt) in
     omega arith
 
 hex_named : (ds : List ℕ) → IfRead NamedBytes (hex_name ds)
 hex_named ds =
-    cond_both (eqb (length ds) 16 && every Hex ds) _ (Err expected.Name) (IfRead NamedBytes)
+    cond_both (eqb (length ds) 16 && list_all hexadecimal ds) _ (Err expected.Name) (IfRead NamedBytes)
     (λ e.
-    let p = and_parts (eqb (length ds) 16) (every Hex ds) e in
+    let p = and_parts (eqb (length ds) 16) (list_all hexadecimal ds) e in
     let long : length ds ≡ 16 = eqb-true (length ds) 16 p.0 in
     let all = p.1 in
     (refl, (hex_at ds 0 (omega arith) all, (hex_at ds 1 (omega arith) all, (hex_at ds 2 (omega arith) all, (hex_at ds 3 (omega arith) all, (hex_at ds 4 (omega arith) all, (hex_at ds 5 (omega arith) all, (hex_at ds 6 (omega arith) all, (hex_at ds 7 (omega arith) all, tt)))))))))) (λ _. tt)

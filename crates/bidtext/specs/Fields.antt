@@ -1,16 +1,12 @@
 -- The fields of a line of text. Assumes nothing.
 use Rattle.std.specs.Prelude.{ℕ, cond, List, [], ◌∷◌, ◌==◌, slice_index_or}
+use Rattle.std.specs.List.{onto_first}
 use Rattle.bidtext.specs.Letters.{blank}
-
--- a byte put before the first of some pieces
-abbrev pub onto : ℕ → List (List ℕ) → List (List ℕ)
-onto b [] = (b ∷ []) ∷ []
-onto b (p ∷ ps) = (b ∷ p) ∷ ps
 
 -- a line up to its comment, cut at each blank
 abbrev pub pieces : List ℕ → List (List ℕ)
 pieces [] = [] ∷ []
-pieces (b ∷ bs) = cond (b == 35) ([] ∷ []) (cond (blank b) ([] ∷ pieces bs) (onto b (pieces bs)))
+pieces (b ∷ bs) = cond (b == 35) ([] ∷ []) (cond (blank b) ([] ∷ pieces bs) (onto_first b (pieces bs)))
 
 -- the pieces that are not empty
 abbrev pub filled : List (List ℕ) → List (List ℕ)

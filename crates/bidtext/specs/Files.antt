@@ -1,21 +1,19 @@
 -- Whole texts, and the words that they write. Assumes nothing.
-use Rattle.std.specs.Prelude.{◌≡◌, ℕ, ◌+◌, cond, List, [], ◌∷◌, ◌++◌, Some, None, Ok, Err, vec_items, Option, Result, Vec, ◌==◌}
+use Rattle.std.specs.Prelude.{◌≡◌, ℕ, ◌+◌, List, [], ◌∷◌, ◌++◌, Some, None, Ok, Err, vec_items, Option, Result, Vec, ◌==◌}
 use Rattle.bidfile.specs.Found.{found}
 use Rattle.bidfile.specs.Items.{Item}
 use Rattle.bidfile.specs.Layout.{Fits, layout, in_places}
 use Rattle.std.specs.declared.alloc.Global.{Global}
-use Rattle.std.specs.List.{flat_map, AllByRecursion}
+use Rattle.std.specs.List.{flat_map, AllByRecursion, slice_split}
 use Rattle.bidtext.specs.declared.expected.Expected.{Expected}
 use Rattle.bidtext.specs.declared.faults.TextFault.{TextFault}
 use Rattle.bidtext.specs.declared.faults.TextFault.TheVariants.{Line, Memory}
-use Rattle.bidtext.specs.Fields.{onto}
 use Rattle.bidtext.specs.Lines.{line_record}
 use Rattle.bidtext.specs.RoundTrip.{line_said}
 
 -- a text cut at its newlines
 abbrev pub rows : List ℕ → List (List ℕ)
-rows [] = [] ∷ []
-rows (b ∷ bs) = cond (b == 10) ([] ∷ rows bs) (onto b (rows bs))
+rows bytes = slice_split (λ b. b == 10) bytes
 
 -- the record of a line, if it has one, as a list
 abbrev pub listed : Result (Option Item) Expected → Result (List Item) Expected

@@ -1,10 +1,10 @@
 -- The names of units, eight bytes each, as they are written in a field. Assumes nothing.
 use Rattle.std.specs.Prelude.{ℕ, ◌+◌, ◌-◌, ◌*◌, Bool, cond, ◌&&◌, List, [], ◌∷◌, length, take, drop, Ok, Err, codes, Result, ◌==◌, nat_le, nat_lt, slice_index, slice_index_or}
+use Rattle.bidtext.specs.Letters.{hexadecimal, mark}
+use Rattle.std.specs.List.{list_all}
 use Rattle.std.specs.Str.{bytes_eq}
 use Rattle.bidtext.specs.declared.expected.Expected.{Expected}
 use Rattle.bidtext.specs.declared.expected.Expected.TheVariants as expected
-use Rattle.bidtext.specs.declared.letters.Letter.TheVariants.{Hex, Mark}
-use Rattle.bidtext.specs.Letters.{every}
 
 -- a name padded with spaces to its eight bytes
 abbrev pub padded : List ℕ → List ℕ
@@ -25,10 +25,10 @@ hex_byte ds k = 16 * hex_value (slice_index ds (2 * k)) + hex_value (slice_index
 
 abbrev pub hex_name : List ℕ → Result (List ℕ) Expected
 hex_name ds =
-    cond (length ds == 16 && every Hex ds) (Ok (hex_byte ds 0 ∷ (hex_byte ds 1 ∷ (hex_byte ds 2 ∷ (hex_byte ds 3 ∷ (hex_byte ds 4 ∷ (hex_byte ds 5 ∷ (hex_byte ds 6 ∷ (hex_byte ds 7 ∷ []))))))))) (Err expected.Name)
+    cond (length ds == 16 && list_all hexadecimal ds) (Ok (hex_byte ds 0 ∷ (hex_byte ds 1 ∷ (hex_byte ds 2 ∷ (hex_byte ds 3 ∷ (hex_byte ds 4 ∷ (hex_byte ds 5 ∷ (hex_byte ds 6 ∷ (hex_byte ds 7 ∷ []))))))))) (Err expected.Name)
 
 abbrev pub plain_name : List ℕ → Result (List ℕ) Expected
-plain_name f = cond (nat_le 1 (length f) && (nat_le (length f) 8 && every Mark f)) (Ok (padded f)) (Err expected.Name)
+plain_name f = cond (nat_le 1 (length f) && (nat_le (length f) 8 && list_all mark f)) (Ok (padded f)) (Err expected.Name)
 
 -- the eight bytes that a field writes
 unfoldable pub name_in : List ℕ → Result (List ℕ) Expected

@@ -1,5 +1,6 @@
 -- The text of a record, without its newline. Assumes nothing.
 use Rattle.std.specs.Prelude.{ℕ, ◌+◌, ◌/◌, ◌%◌, Bool, cond, not, ◌&&◌, List, [], ◌∷◌, ◌++◌, take, drop, codes, decimal, ◌==◌, nat_le, nat_lt}
+use Rattle.bidtext.specs.Letters.{space, mark}
 use Rattle.bidfile.specs.declared.records.CurveChoice.{CurveChoice}
 use Rattle.bidfile.specs.declared.records.CurveChoice.TheVariants.{Straight, Stepped}
 use Rattle.bidfile.specs.declared.records.OrderChoice.{OrderChoice}
@@ -7,9 +8,7 @@ use Rattle.bidfile.specs.declared.records.OrderChoice.TheVariants.{ByRule, ByNam
 use Rattle.bidfile.specs.declared.records.SideChoice.{SideChoice}
 use Rattle.bidfile.specs.declared.records.SideChoice.TheVariants.{Taker, Maker}
 use Rattle.bidfile.specs.Items.{Item, terms, corner, unit, exit, years, step_back, close}
-use Rattle.std.specs.List.{flat_map, prefix_len}
-use Rattle.bidtext.specs.declared.letters.Letter.TheVariants.{Space, Mark}
-use Rattle.bidtext.specs.Letters.{is_letter, every}
+use Rattle.std.specs.List.{flat_map, prefix_len, list_all}
 use Rattle.bidtext.specs.Names.{is_hexed}
 
 abbrev pub curve_word : CurveChoice → List ℕ
@@ -38,11 +37,11 @@ hex_pair b = hex_digit (b / 16) ∷ (hex_digit (b % 16) ∷ [])
 
 -- how many marks a name begins with
 abbrev pub marks : List ℕ → ℕ
-marks name = prefix_len (is_letter Mark) name
+marks name = prefix_len mark name
 
 -- a name of at least one mark, then padding only, that does not begin with `hex:`
 abbrev pub is_plain : List ℕ → Bool
-is_plain name = not (is_hexed name) && (nat_le 1 (marks name) && every Space (drop (marks name) name))
+is_plain name = not (is_hexed name) && (nat_le 1 (marks name) && list_all space (drop (marks name) name))
 
 -- such a name without its padding, any other as hexadecimal digits
 unfoldable pub name_word : List ℕ → List ℕ

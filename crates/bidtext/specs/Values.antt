@@ -1,5 +1,7 @@
 -- What single fields say: numbers, and words of which one is chosen. Assumes nothing.
 use Rattle.std.specs.Prelude.{ℕ, ◌+◌, ◌-◌, ◌*◌, Bool, cond, ◌&&◌, List, [], ◌∷◌, length, Ok, Err, codes, Result, ◌==◌, nat_le, nat_lt}
+use Rattle.bidtext.specs.Letters.{digit}
+use Rattle.std.specs.List.{list_all}
 use Rattle.std.specs.Str.{bytes_eq}
 use Rattle.bidfile.specs.declared.records.CurveChoice.{CurveChoice}
 use Rattle.bidfile.specs.declared.records.CurveChoice.TheVariants.{Straight, Stepped}
@@ -9,8 +11,6 @@ use Rattle.bidfile.specs.declared.records.SideChoice.{SideChoice}
 use Rattle.bidfile.specs.declared.records.SideChoice.TheVariants.{Taker, Maker}
 use Rattle.bidtext.specs.declared.expected.Expected.{Expected}
 use Rattle.bidtext.specs.declared.expected.Expected.TheVariants as expected
-use Rattle.bidtext.specs.declared.letters.Letter.TheVariants.{Digit}
-use Rattle.bidtext.specs.Letters.{every}
 
 -- the number that decimal digits write, after those that were read
 abbrev pub value_after : ℕ → List ℕ → ℕ
@@ -21,7 +21,7 @@ abbrev pub value_of : List ℕ → ℕ
 value_of digits = value_after 0 digits
 
 abbrev pub numeral : List ℕ → Bool
-numeral f = nat_le 1 (length f) && every Digit f
+numeral f = nat_le 1 (length f) && list_all digit f
 
 -- a number of at most 28 bits
 unfoldable pub number_in : List ℕ → Result ℕ Expected

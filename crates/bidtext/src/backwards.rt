@@ -18,13 +18,9 @@ fn next_record<'a>(reader: &mut Reader<'a>) -> Result<Option<Placed<'a>>, FileFa
     ensures bytes { reader.new.file.now ≡ reader.old.file.now }
     ensures place { Moved reader.old.file.now reader.old.at reader.new.at result }
 {
-    let first = reader.next(Due::Corners);
-    match first {
-        Ok(placed) => Ok(placed),
-        Err(fault) => match fault.question {
-            FileQuestion::Turn => reader.next(Due::Terms),
-            _ => Err(fault),
-        },
+    match reader.next(Due::Corners) {
+        Err(fault) if fault.question == FileQuestion::Turn => reader.next(Due::Terms),
+        read => read,
     }
 }
 
@@ -34,8 +30,7 @@ fn add_record(heap: Global, text: &mut String, record: Record<&[u8]>) -> Result<
 {
     let line = record_text(heap, record)?;
     text.push_str(line.as_str())?;
-    text.push('\n')?;
-    Ok(())
+    text.push('\n')
 }
 
 // The lines of the records that a reader hands out, from the front of a file on.
@@ -68,10 +63,9 @@ pub fn words_text(heap: Global, file: &[u8]) -> Result<Listed, AllocError>
     let reader = Reader::new(file);
     match reader.check() {
         Ok(()) => list(heap, file),
-        Err(fault) => {
-            let text = String::new(heap);
-            let fault = Some(fault);
-            Ok(Listed { text, fault })
-        }
+        Err(fault) => Ok(Listed {
+            text: String::new(heap),
+            fault: Some(fault),
+        }),
     }
 }

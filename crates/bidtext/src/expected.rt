@@ -4,7 +4,7 @@ ghost use Rattle.bidtext.specs.Expectations.{expected_text};
 use std::fmt;
 
 // What was expected on a line that cannot be read.
-#[derive(Clone, Copy)]
+#[derive(Clone, Copy, PartialEq, Eq, Debug)]
 pub enum Expected {
     Record,
     Cap,

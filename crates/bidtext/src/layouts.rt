@@ -18,13 +18,7 @@ fn head(kind: Kind, value: u32) -> u32
 fn push_word(words: &mut Vec<u8>, word: u32) -> Result<(), AllocError>
     ensures { OnOk result (words.new.items ≡ words.old.items ++ word_bytes word) }
 {
-    let bytes = [
-        (word / 16_777_216) as u8,
-        (word / 65_536 % 256) as u8,
-        (word / 256 % 256) as u8,
-        (word % 256) as u8,
-    ];
-    words.extend_from_slice(&bytes)
+    words.extend_from_slice(&word.to_be_bytes())
 }
 
 fn push_words(words: &mut Vec<u8>, values: &[u32]) -> Result<(), AllocError>
@@ -53,8 +47,7 @@ fn push_unit(words: &mut Vec<u8>, unit: UnitRecord<[u8; 8]>) -> Result<(), Alloc
     let first = head(Kind::Unit, unit.capacity);
     let side = u32::from(unit.side);
     push_words(words, &[first, unit.class, side, unit.years, unit.random])?;
-    words.extend_from_slice(&unit.name)?;
-    Ok(())
+    words.extend_from_slice(&unit.name)
 }
 
 // The words of a record that can be written.

@@ -144,6 +144,5 @@ pub fn read_line(line: &[u8]) -> Result<Option<Record<[u8; 8]>>, Expected>
     if field(line, 0).is_empty() {
         return Ok(None);
     }
-    let record = read_record(line)?;
-    Ok(Some(record))
+    read_record(line).map(Some)
 }

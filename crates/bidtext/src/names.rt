@@ -1,10 +1,10 @@
 ghost use Rattle.std.specs.Prelude.{◌≡◌, ◌+◌, ◌*◌, ◌<◌, true, length, codes, slice_index_or};
-ghost use Rattle.bidtext.specs.declared.letters.Letter.TheVariants.{Hex};
-ghost use Rattle.bidtext.specs.Letters.{is_letter, every};
+ghost use Rattle.bidtext.specs.Letters.{hexadecimal, mark};
+ghost use Rattle.std.specs.List.{list_all};
 ghost use Rattle.bidtext.specs.Names.{is_hexed, hex_value, hex_byte, hex_name, plain_name, name_in};
 
 use crate::expected::Expected;
-use crate::letters::Letter;
+use crate::letters::is_mark;
 
 pub(crate) fn is_hexed(field: &[u8]) -> bool
     ensures { result ≡ is_hexed field.now }
@@ -23,10 +23,16 @@ fn byte_at(field: &[u8], place: usize) -> u8
     }
 }
 
+fn are_marks(field: &[u8]) -> bool
+    ensures { result ≡ list_all mark field.now }
+{
+    field.iter().all(|byte| is_mark(*byte))
+}
+
 fn read_plain(field: &[u8]) -> Result<[u8; 8], Expected>
     ensures { result ≡ plain_name field.now }
 {
-    if field.len() >= 1 && field.len() <= 8 && Letter::Mark.admits_all(field) {
+    if field.len() >= 1 && field.len() <= 8 && are_marks(field) {
         Ok([
             byte_at(field, 0),
             byte_at(field, 1),
@@ -57,19 +63,22 @@ fn hex_value(digit: u8) -> u8
 // The byte that two hexadecimal digits write.
 fn hex_byte(digits: &[u8], place: usize) -> u8
     requires place_in_bounds { 2 * place + 1 < length digits.now }
-    requires digits_value { every Hex digits.now ≡ true }
+    requires digits_value { list_all hexadecimal digits.now ≡ true }
     ensures { result ≡ hex_byte digits.now place }
 {
     16 * hex_value(digits[2 * place]) + hex_value(digits[2 * place + 1])
 }
 
+fn are_hexadecimal(digits: &[u8]) -> bool
+    ensures { result ≡ list_all hexadecimal digits.now }
+{
+    digits.iter().all(|digit| digit.is_ascii_hexdigit())
+}
+
 fn read_hex(digits: &[u8]) -> Result<[u8; 8], Expected>
     ensures { result ≡ hex_name digits.now }
 {
-    if digits.len() != 16 {
-        return Err(Expected::Name);
-    }
-    if !Letter::Hex.admits_all(digits) {
+    if digits.len() != 16 || !are_hexadecimal(digits) {
         return Err(Expected::Name);
     }
     Ok([

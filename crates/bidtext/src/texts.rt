@@ -1,9 +1,10 @@
-ghost use Rattle.std.specs.Prelude.{◌≡◌, ◌<◌, ◌++◌, IfOk, string_bytes, codes};
+ghost use Rattle.std.specs.Prelude.{◌≡◌, ◌<◌, ◌≤◌, ◌++◌, length, IfOk, string_bytes, codes};
 ghost use Rattle.bidfile.specs.Items.{item_of, unit_item, terms, unit};
-ghost use Rattle.bidtext.specs.Texts.{curve_word, order_word, side_word, class_word, hex_digit, hex_pair, is_plain, name_word, line_text};
-ghost use Rattle.std.specs.List.{flat_map};
+ghost use Rattle.bidtext.specs.Texts.{curve_word, order_word, side_word, class_word, hex_digit, hex_pair, marks, is_plain, name_word, line_text};
+ghost use Rattle.bidtext.specs.Letters.{space};
+ghost use Rattle.std.specs.List.{flat_map, list_all};
 
-use crate::letters::Letter;
+use crate::letters::is_mark;
 use crate::names::is_hexed;
 use bidfile::{CurveChoice, OrderChoice, Record, SideChoice, TermsRecord, UnitRecord};
 use std::alloc::{AllocError, Global};
@@ -48,6 +49,20 @@ fn class_text(heap: Global, class: u32) -> Result<String, AllocError>
     }
 }
 
+// How many marks a name begins with.
+fn marks(name: &[u8]) -> usize
+    ensures count { result ≡ marks name.now }
+    ensures within { result ≤ length name.now }
+{
+    name.iter().take_while(|byte| is_mark(**byte)).count()
+}
+
+fn are_spaces(bytes: &[u8]) -> bool
+    ensures { result ≡ list_all space bytes.now }
+{
+    bytes.iter().all(|byte| *byte == b' ')
+}
+
 // Whether a name is written as it stands.
 fn is_plain(name: &[u8]) -> bool
     ensures { result ≡ is_plain name.now }
@@ -55,8 +70,8 @@ fn is_plain(name: &[u8]) -> bool
     if is_hexed(name) {
         return false;
     }
-    let marks = Letter::Mark.count(name);
-    marks >= 1 && Letter::Space.admits_all(&name[marks..])
+    let marks = marks(name);
+    marks >= 1 && are_spaces(&name[marks..])
 }
 
 fn hex_digit(value: u8) -> u8
@@ -84,7 +99,7 @@ fn name_text(heap: Global, name: &[u8]) -> Result<String, AllocError>
     if !is_plain(name) {
         return hex_text(heap, name);
     }
-    match from_utf8(&name[..Letter::Mark.count(name)]) {
+    match from_utf8(&name[..marks(name)]) {
         Ok(text) => String::from_str(heap, text),
         Err(_) => unreachable(),
     }

@@ -1,9 +1,10 @@
 ghost use Rattle.std.specs.Prelude.{◌≡◌, min};
 ghost use Rattle.bidtext.specs.Values.{value_of, number_in, keyword, curve_in, order_in, side_in, class_in, nothing_in, numeral};
+ghost use Rattle.bidtext.specs.Letters.{digit};
+ghost use Rattle.std.specs.List.{list_all};
 ghost use Rattle.std.specs.Str.{bytes_eq};
 
 use crate::expected::Expected;
-use crate::letters::Letter;
 use bidfile::{CurveChoice, OrderChoice, SideChoice};
 
 // One more than the largest number of 28 bits.
@@ -26,10 +27,16 @@ fn value(digits: &[u8]) -> u32
     value
 }
 
+fn are_digits(field: &[u8]) -> bool
+    ensures { result ≡ list_all digit field.now }
+{
+    field.iter().all(|byte| byte.is_ascii_digit())
+}
+
 fn is_numeral(field: &[u8]) -> bool
     ensures { result ≡ numeral field.now }
 {
-    field.len() >= 1 && Letter::Digit.admits_all(field)
+    !field.is_empty() && are_digits(field)
 }
 
 pub(crate) fn read_number(field: &[u8]) -> Result<u32, Expected>

@@ -23,7 +23,7 @@ returns-in-Err c =
     let fault = c.in-Err.fault in
     let asked = c.in-Err.ensures.refusal ∙ ap (λ (b : List ℕ). first_no (length_questions b)) c.new-reader.ensures.bytes in
     let value =
-    ap (λ (t : List ℕ). (t, Some (fault_of fault))) c.new-text.ensures.bytes
+    ap (λ (t : List ℕ). (t, Some (fault_of fault))) c.new.ensures.bytes
     ∙ ap (λ (p : ℕ). ([], Some (fault_number fault, p))) c.in-Err.ensures.place
     ∙ ap (λ (o : Option ℕ). with_text [] (length_kept o file)) asked in
-    record { value = value; back = text_back {E = AllocError} c.layout_holds.ensures file (Ok (record { text = c.new-text.result; fault = Some fault })) value }
+    record { value = value; back = text_back {E = AllocError} c.layout_holds.ensures file (Ok (record { text = c.new.result; fault = Some fault })) value }

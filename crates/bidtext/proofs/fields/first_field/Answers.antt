@@ -4,5 +4,5 @@ use Rattle.std.proofs.lemmas.List.{take_rest}
 
 pub returns : goal.returns
 returns c =
-    (parted c.args.line.now _ c.count.result c.count-2.result c.count.ensures.count
-    (take_rest c.args.line.now c.count.result) c.count-2.ensures.count).field
+    (parted c.args.line.now _ c.blanks.result c.inners.result c.blanks.ensures.count
+    (take_rest c.args.line.now c.blanks.result) c.inners.ensures.count).field

@@ -6,5 +6,5 @@ use Rattle.std.proofs.lemmas.List.{take_rest}
 
 pub returns : goal.returns
 returns c =
-    ap fields (take_rest _ c.count-2.result)
-    ∙ (parted c.args.line.now _ c.count.result c.count-2.result c.count.ensures.count (take_rest c.args.line.now c.count.result) c.count-2.ensures.count).others
+    ap fields (take_rest _ c.inners.result)
+    ∙ (parted c.args.line.now _ c.blanks.result c.inners.result c.blanks.ensures.count (take_rest c.args.line.now c.blanks.result) c.inners.ensures.count).others

@@ -1,30 +1,41 @@
-use Rattle.std.proofs.Common.{◌+◌, length, Ok, Err, vec_items, ap, ◌∙◌, arith}
-use Rattle.bidtext.proofs.TextRows.{start, next, last, faulty}
+use Rattle.std.proofs.Common.{◌≡◌, ℕ, ◌≤◌, [], ◌∷◌, length, Ok, Err, vec_items, eqb, sym, subst, rules, arith}
+use Rattle.bidtext.specs.Files.{rows, TextRead}
 use Rattle.bidtext.proofs.LinesRead.{text_trip}
+use Rattle.bidtext.proofs.TextRows.{SoFar, start, next, done, faulty}
 use Rattle.bidtext.proofs.files.text_words.Goals as goal
-use Rattle.std.proofs.lemmas.List.{take_rest, length-drop}
+use Rattle.std.proofs.lemmas.Iterator.Consumers.{YieldsList-from_enumerate, YieldsList-turn, YieldsList-end}
+use Rattle.std.proofs.lemmas.Iterator.Splits.{YieldsList-from_slice_split}
+use Rattle.std.proofs.lemmas.List.{length-append}
+use Rattle.std.proofs.lemmas.List.FromFn.{length-enumerate_from}
+use Rattle.std.proofs.lemmas.Result.{err_from_is_err_and}
 
-pub loop-fault-init : goal.loop-fault-init
-loop-fault-init c = start c.args.text.now _ c.new-words.ensures.items
+pub loop-before-init : goal.loop-before-init
+loop-before-init c = start c.args.text.now _ c.new-words.ensures.items
 
-pub loop-fault-preserved : goal.loop-fault-preserved
-loop-fault-preserved c =
-    let rest = c.loop-fault.rest.now in
-    let end = c.count-end.result in
-    let added = c.in-Ok.ensures in
-    let cut = take_rest rest (end + 1) in
-    let long = ap length cut ∙ length-drop (end + 1) rest in
-    next c.args.text.now c.loop-fault.number rest _ c.loop-fault.invariant end _ _ added.0 c.count-end.ensures.count (omega arith) cut (omega arith) added.1 added.2 added.3
+pub loop-before-preserved : goal.loop-before-preserved
+loop-before-preserved c =
+    let lines = YieldsList-from_enumerate (YieldsList-from_slice_split _ (λ b. eqb b 10) c.args.text.now (cc) (cc) (cc) (λ x b q k. search rules)) (cc) in
+    let turn = YieldsList-turn lines c.loop-before.yielded _ c.loop-before.yielded_by c.next.result c.next.new.self (c.in-Some.before, c.in-Some.line) c.in-Some.is c.next.ensures.steps in
+    let added = c.in_ok-add_line.ensures in
+    let all = sym (length-append c.loop-before.yielded ((c.in-Some.before, c.in-Some.line) ∷ [])) in
+    subst (λ (n : ℕ). SoFar c.args.text.now n (vec_items c.add_line.new.words)) all
+    (next c.args.text.now (length c.loop-before.yielded) _ c.loop-before.invariant c.in-Some.before c.in-Some.line.now turn.0 turn.1 _ added.0 added.1 added.2 added.3)
 
-pub returns-in-Err : goal.returns-in-Err
-returns-in-Err c =
+pub returns-in_err-add_line : goal.returns-in_err-add_line
+returns-in_err-add_line c =
     let text = c.args.text.now in
-    let value = faulty text c.loop-fault.number c.loop-fault.rest.now _ c.loop-fault.invariant c.count-end.result (vec_items c.add_line.new.words) c.in-Err.fault c.count-end.ensures.count c.in-Err.ensures in
-    record { value = value; back = text_trip text (Err c.in-Err.fault) value }
+    let lines = YieldsList-from_enumerate (YieldsList-from_slice_split _ (λ b. eqb b 10) text (cc) (cc) (cc) (λ x b q k. search rules)) (cc) in
+    let turn = YieldsList-turn lines c.loop-before.yielded _ c.loop-before.yielded_by c.next.result c.next.new.self (c.in-Some.before, c.in-Some.line) c.in-Some.is c.next.ensures.steps in
+    let fault = c.in_err-add_line.field-0.0 in
+    let left : c.from_residual.result ≡ Err fault = search (rules, err_from_is_err_and, c.from_residual.ensures) in
+    let value = subst (TextRead text) (sym left) (faulty text (length c.loop-before.yielded) _ c.loop-before.invariant c.in-Some.before c.in-Some.line.now turn.0 turn.1 (vec_items c.add_line.new.words) fault c.in_err-add_line.ensures) in
+    record { value = value; back = text_trip text c.from_residual.result value }
 
-pub returns-then-end-rest : goal.returns-then-end-rest
-returns-then-end-rest c =
+pub returns : goal.returns
+returns c =
     let text = c.args.text.now in
-    let added = c.in-Ok.ensures in
-    let value = last text c.loop-fault.number c.loop-fault.rest.now _ c.loop-fault.invariant c.layout_holds.ensures c.count-end.result _ added.0 c.count-end.ensures.count c.if-end-rest.true added.1 added.2 added.3 in
-    record { value = value; back = text_trip text (Ok c.add_line.new.words) value }
+    let lines = YieldsList-from_enumerate (YieldsList-from_slice_split _ (λ b. eqb b 10) text (cc) (cc) (cc) (λ x b q k. search rules)) (cc) in
+    let end = (YieldsList-end lines c.loop-before.yielded _ c.loop-before.yielded_by c.next.result c.next.new.self c.in-None.is c.next.ensures.steps).1 in
+    let all : length (rows text) ≤ length c.loop-before.yielded = let n = length-enumerate_from 0 (rows text) in omega arith in
+    let value = done text (length c.loop-before.yielded) _ c.loop-before.invariant c.layout_holds.ensures all in
+    record { value = value; back = text_trip text (Ok c.loop-before.words) value }

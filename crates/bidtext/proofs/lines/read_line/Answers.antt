@@ -30,14 +30,8 @@ returns-then-is_empty c =
     let a = answered c.args.line.now (Ok None) (search rules) in
     record { value = a.value; back = a.back; fits = a.fits }
 
-pub returns-in_err-record : goal.returns-in_err-record
-unfolding line_record
-returns-in_err-record c =
-    let a = answered c.args.line.now _ (search rules) in
-    record { value = a.value; back = a.back; fits = a.fits }
-
 pub returns : goal.returns
 unfolding line_record
 returns c =
-    let a = answered c.args.line.now (Ok (Some c.in_ok-record.«record»)) (search rules) in
+    let a = answered c.args.line.now c.map.result (search rules) in
     record { value = a.value; back = a.back; fits = a.fits }

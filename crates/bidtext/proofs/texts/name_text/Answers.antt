@@ -15,7 +15,7 @@ returns-then-not-is_plain c =
 
 pub unreachable-requires : goal.unreachable-requires
 unreachable-requires c =
-    c.in-Err.ensures.cases.0 (IsUtf8-from_ascii _ (first_small c.args.name.now c.count.result c.count.ensures.count))
+    c.in-Err.ensures.cases.0 (IsUtf8-from_ascii _ (first_small c.args.name.now c.marks.result c.marks.ensures.count))
 
 pub returns : goal.returns
 unfolding name_word
@@ -23,5 +23,5 @@ returns c =
     let name = c.args.name.now in
     subst (λ (w : List ℕ). IfOk c.from_str.result (λ s. string_bytes s ≡ w))
     (c.in-Ok.ensures.cases.0
-    ∙ ap (λ (n : ℕ). take n name) c.count.ensures.count
+    ∙ ap (λ (n : ℕ). take n name) c.marks.ensures.count
     ∙ sym (cond-true (is_plain name) (take (marks name) name) (codes "hex:" ++ flat_map hex_pair name) (sym c.if-not-is_plain.ensures))) c.from_str.ensures.ok
