@@ -15,6 +15,5 @@ pub mod Rounds
 pub mod Above
 pub mod Floors
 pub mod TurnByTurn
-pub mod LawfulStates
 pub mod Runs
 pub mod Awarding

@@ -22,9 +22,6 @@ pub new_unit_is : (a : Application) → new_unit a ≡ unit_said a None None
 new_unit_is a =
     elim (class_of a.class) as (λ o. unit_as a o ≡ record { enrolled = (unit_as a o).enrolled; standing = record { years = a.years; inside = true; exit = None } }) [ None ↦ refl | Some c ↦ refl ]
 
-pub new_years : (a : Application) → (new_unit a).enrolled.years ≡ a.years
-new_years a = elim (class_of a.class) as (λ o. (unit_as a o).enrolled.years ≡ a.years) [ None ↦ refl | Some c ↦ refl ]
-
 pub new_in_kw : (a : Application) → in_kw (new_unit a) ≡ a.capacity
 new_in_kw a = ap in_kw (new_unit_is a) ∙ new_capacity a
 

@@ -135,8 +135,3 @@ step s (Years c i years) = served s c i years
 step s (StepBack c) = went_back s c
 step s (Close c) = closed s c
 step s (Next c) = went_on s c
-
--- the calls made one after the other: the auction at the end, and the answers
-abbrev pub run : State → List Call → State × List Answer
-run s [] = (s, [])
-run s (c ∷ cs) = ((run (step s c).0 cs).0, (step s c).1 ∷ (run (step s c).0 cs).1)
