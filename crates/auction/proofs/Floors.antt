@@ -17,13 +17,13 @@ use Rattle.curve.specs.Questions.{first_no}
 use Rattle.curve.specs.Words.{within}
 use Rattle.curve.proofs.DemandWords.{words}
 
-pub shut_has_floor : (m : Meaning) → Laws m → (floor : ℕ) (b : Books) → lawful b ≡ true → within m floor (capacity_inside b.units) ≡ false → ltb 0 floor ≡ true
-shut_has_floor m laws zero b h not =
+pub shut_has_floor : (m : Meaning) → Laws m → (floor : ℕ) (b : Books) (clears : Bool) → lawful b ≡ true → clears ≡ within m floor (capacity_inside b.units) → clears ≡ false → ltb 0 floor ≡ true
+shut_has_floor m laws zero b clears h asked not =
     let keeps = lawful_keeps b h in
     let most = capacity_at_most_total b.units in
     let is : within m 0 (capacity_inside b.units) ≡ true = (words m laws).free (capacity_inside b.units) (omega (arith, keeps.total)) in
-    absurd (let z : ◌≡◌ {A = Bool} true false = sym is ∙ not in grind (arith, nat_tests))
-shut_has_floor m laws (suc floor) b h not = lt-ltb 0 (suc floor) (omega arith)
+    absurd (let z : ◌≡◌ {A = Bool} true false = sym is ∙ sym asked ∙ not in grind (arith, nat_tests))
+shut_has_floor m laws (suc floor) b clears h asked not = lt-ltb 0 (suc floor) (omega arith)
 
 is_shut : (stage : Stage) → same_stage stage Shut ≡ true → (floor : ℕ) → shut_above stage floor ≡ true → 0 < floor
 is_shut Enrolling h floor k = absurd (grind (arith, nat_tests))
