@@ -5,20 +5,11 @@ ghost use Rattle.listing.specs.declared.fault.Fault.TheVariants.{File, Auction};
 ghost use Rattle.listing.specs.declared.fault.Unopenable.TheVariants.{Curve, Open};
 ghost use Rattle.listing.specs.Faults.{why_layer, why_number, fault_layer, fault_number, fault_place, fault_line};
 
-use crate::fault::{AuctionFault, Fault, Layer, Unopenable};
+use crate::fault::{Fault, Layer, Unopenable};
 use crate::line::Line;
 use auction::Refusal;
 use bidfile::FileFault;
-use curve::CurveRefusal;
-
-impl AuctionFault {
-    // It is printed with word 0, wherever its question comes.
-    fn new(why: Unopenable) -> AuctionFault
-        ensures { result ≡ record { why = why; place = 0 } }
-    {
-        AuctionFault { why, place: 0 }
-    }
-}
+use curve::{CurveRefusal, GivenBack};
 
 impl Unopenable {
     // The layer whose question it is.
@@ -30,16 +21,6 @@ impl Unopenable {
             Unopenable::Open(_) => Layer::Auction,
         }
     }
-
-    // The number under which docs/questions.md lists the question.
-    fn number(self) -> u32
-        ensures { result ≡ why_number self }
-    {
-        match self {
-            Unopenable::Curve(refusal) => refusal.number(),
-            Unopenable::Open(refusal) => refusal.number(),
-        }
-    }
 }
 
 impl Fault {
@@ -49,37 +30,53 @@ impl Fault {
     {
         match self {
             Fault::File(_) => Layer::File,
-            Fault::Auction(fault) => fault.why.layer(),
+            Fault::Auction(why) => why.layer(),
         }
     }
 
-    // The number under which docs/questions.md lists that question.
-    pub fn number(self) -> u32
-        ensures { result ≡ fault_number self }
-    {
-        match self {
-            Fault::File(fault) => fault.number(),
-            Fault::Auction(fault) => fault.why.number(),
-        }
-    }
-
-    // The word of the file that it is printed with.
+    // The word of the file that it is printed with: 0 if no auction was opened, since its curve and terms are not of one record.
     pub fn place(self) -> usize
         ensures { result ≡ fault_place self }
     {
         match self {
             Fault::File(fault) => fault.place,
-            Fault::Auction(fault) => fault.place,
+            Fault::Auction(_) => 0,
         }
     }
+}
 
-    pub fn line(self) -> Line
-        ensures { result ≡ fault_line self }
-    {
+// The number under which docs/questions.md lists the question.
+impl From<Unopenable> for u32 {
+    ghost from_gives = { λ why r. r ≡ why_number why };
+
+    fn from(why: Unopenable) -> u32 {
+        match why {
+            Unopenable::Curve(refusal) => u32::from(refusal),
+            Unopenable::Open(refusal) => u32::from(refusal),
+        }
+    }
+}
+
+// The number under which docs/questions.md lists the question that ended the run.
+impl From<Fault> for u32 {
+    ghost from_gives = { λ fault r. r ≡ fault_number fault };
+
+    fn from(fault: Fault) -> u32 {
+        match fault {
+            Fault::File(fault) => u32::from(fault),
+            Fault::Auction(why) => u32::from(why),
+        }
+    }
+}
+
+impl From<Fault> for Line {
+    ghost from_gives = { λ fault r. r ≡ fault_line fault };
+
+    fn from(fault: Fault) -> Line {
         Line::Fault {
-            layer: self.layer(),
-            question: self.number(),
-            place: self.place(),
+            layer: fault.layer(),
+            question: u32::from(fault),
+            place: fault.place(),
         }
     }
 }
@@ -92,26 +89,44 @@ impl From<FileFault> for Fault {
     }
 }
 
-impl From<AuctionFault> for Fault {
-    ghost from_gives = { λ fault r. r ≡ Auction fault };
+impl From<Unopenable> for Fault {
+    ghost from_gives = { λ why r. r ≡ Auction why };
 
-    fn from(fault: AuctionFault) -> Fault {
-        Fault::Auction(fault)
+    fn from(why: Unopenable) -> Fault {
+        Fault::Auction(why)
     }
 }
 
-impl From<CurveRefusal> for AuctionFault {
-    ghost from_gives = { λ refusal r. r ≡ record { why = Curve refusal; place = 0 } };
+impl From<CurveRefusal> for Unopenable {
+    ghost from_gives = { λ refusal r. r ≡ Curve refusal };
 
-    fn from(refusal: CurveRefusal) -> AuctionFault {
-        AuctionFault::new(Unopenable::Curve(refusal))
+    fn from(refusal: CurveRefusal) -> Unopenable {
+        Unopenable::Curve(refusal)
     }
 }
 
-impl From<Refusal> for AuctionFault {
-    ghost from_gives = { λ refusal r. r ≡ record { why = Open refusal; place = 0 } };
+impl From<Refusal> for Unopenable {
+    ghost from_gives = { λ refusal r. r ≡ Open refusal };
 
-    fn from(refusal: Refusal) -> AuctionFault {
-        AuctionFault::new(Unopenable::Open(refusal))
+    fn from(refusal: Refusal) -> Unopenable {
+        Unopenable::Open(refusal)
+    }
+}
+
+// Where no curve was made of the corners.
+impl<T: Drop> From<GivenBack<T, CurveRefusal>> for Unopenable {
+    ghost from_gives = { λ back r. r ≡ Curve back.why };
+
+    fn from(back: GivenBack<T, CurveRefusal>) -> Unopenable {
+        Unopenable::from(back.why)
+    }
+}
+
+// Where no auction was opened over the curve.
+impl<T: Drop> From<GivenBack<T, Refusal>> for Unopenable {
+    ghost from_gives = { λ back r. r ≡ Open back.why };
+
+    fn from(back: GivenBack<T, Refusal>) -> Unopenable {
+        Unopenable::from(back.why)
     }
 }

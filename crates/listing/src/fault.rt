@@ -3,7 +3,7 @@ use bidfile::FileFault;
 use curve::CurveRefusal;
 
 // The layer whose question ended a run.
-#[derive(Clone, Copy)]
+#[derive(Clone, Copy, PartialEq, Eq, Debug)]
 pub enum Layer {
     File,
     Curve,
@@ -11,22 +11,15 @@ pub enum Layer {
 }
 
 // Why no auction was opened: the question of the curve, or that of Open.
-#[derive(Clone, Copy)]
+#[derive(Clone, Copy, PartialEq, Eq, Debug)]
 pub enum Unopenable {
     Curve(CurveRefusal),
     Open(Refusal),
 }
 
-// An auction that could not be opened. Its place is 0, since its curve and terms are not of one record.
-#[derive(Clone, Copy)]
-pub struct AuctionFault {
-    pub why: Unopenable,
-    pub place: usize,
-}
-
 // What ends a run.
-#[derive(Clone, Copy)]
+#[derive(Clone, Copy, PartialEq, Eq, Debug)]
 pub enum Fault {
     File(FileFault),
-    Auction(AuctionFault),
+    Auction(Unopenable),
 }

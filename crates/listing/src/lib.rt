@@ -4,9 +4,10 @@
 mod carried;
 mod fault;
 mod line;
+mod results;
 mod text;
 
-pub use fault::{AuctionFault, Fault, Layer, Unopenable};
+pub use fault::{Fault, Layer, Unopenable};
 pub use line::Line;
 
 #[cfg(test)]
@@ -76,16 +77,16 @@ mod tests {
         let table = [
             (Fault::from(file), "FAULT FILE 24 WORD 12"),
             (
-                Fault::from(AuctionFault::from(CurveRefusal::CornerCount)),
+                Fault::from(Unopenable::from(CurveRefusal::CornerCount)),
                 "FAULT CURVE 1 WORD 0",
             ),
             (
-                Fault::from(AuctionFault::from(Refusal::Threshold)),
+                Fault::from(Unopenable::from(Refusal::Threshold)),
                 "FAULT AUCTION 8 WORD 0",
             ),
         ];
         for (fault, text) in table {
-            check_line(&rt, rt.alloc(), fault.line(), text)?;
+            check_line(&rt, rt.alloc(), Line::from(fault), text)?;
         }
         Ok(())
     }

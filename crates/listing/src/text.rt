@@ -1,7 +1,8 @@
 // What is printed of a line.
 
-ghost use Rattle.std.specs.Prelude.{◌≡◌, Some, ◌==◌};
-ghost use Rattle.listing.specs.Texts.{layer_text, name_text, line_text};
+ghost use Rattle.std.specs.Prelude.{◌≡◌, ◌≤◌, Some, ◌==◌, length, not};
+ghost use Rattle.std.specs.List.{prefix_len};
+ghost use Rattle.listing.specs.Texts.{layer_text, unpadded, name_text, line_text};
 
 use crate::fault::Layer;
 use crate::line::Line;
@@ -20,10 +21,12 @@ impl fmt::Display for Layer {
     }
 }
 
-fn is_padding(byte: u8) -> bool
-    ensures { result ≡ (byte == 32) }
+// How many bytes stand before the first space.
+fn unpadded_len(name: &[u8]) -> usize
+    ensures value { result ≡ prefix_len (λ b. not (b == 32)) name.now }
+    ensures within { result ≤ length name.now }
 {
-    byte == b' '
+    name.iter().take_while(|&&byte| byte != b' ').count()
 }
 
 // A name as it is printed, without its padding.
@@ -32,14 +35,20 @@ struct Unpadded {
     name: Name,
 }
 
+impl Unpadded {
+    // The bytes before the first space.
+    fn bytes(&self) -> &[u8]
+        ensures { result.now ≡ unpadded self.now.name }
+    {
+        &self.name[..unpadded_len(&self.name)]
+    }
+}
+
 impl fmt::Display for Unpadded {
     ghost output = { λ text. Some (name_text text.name) };
 
     fn fmt<W: fmt::Write>(&self, f: &mut fmt::Formatter<W>) -> fmt::Result {
-        for byte in self.name {
-            if is_padding(byte) {
-                break;
-            }
+        for &byte in self.bytes() {
             f.write_char(char::from(byte))?;
         }
         Ok(())
@@ -65,7 +74,7 @@ impl fmt::Display for Line {
             Line::Cleared { price, ground } => write!(
                 f,
                 "CLEARED {price} GROUND {}",
-                ground.number()
+                u32::from(ground)
             ),
             Line::Award {
                 name,
