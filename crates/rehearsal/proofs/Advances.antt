@@ -18,14 +18,14 @@ use Rattle.bidfile.specs.Reading.{read_out, Stands}
 use Rattle.bidfile.specs.Words.{words, kind_at}
 use Rattle.bidfile.proofs.FoundPlaces.{size_some, found_more}
 use Rattle.bidfile.proofs.ItemKinds.{placed, handed_placed, read_parts, found_kind}
-use Rattle.listing.specs.declared.fault.AuctionFault.{AuctionFault}
 use Rattle.listing.specs.declared.fault.Layer.{Layer}
 use Rattle.listing.specs.declared.fault.Layer.TheVariants.{File}
+use Rattle.listing.specs.declared.fault.Unopenable.{Unopenable}
 use Rattle.listing.specs.declared.line.Line.{Line}
 use Rattle.listing.specs.declared.line.Line.TheVariants as line
 use Rattle.rehearsal.specs.declared.progress.Progress.{Progress as Coded}
 use Rattle.rehearsal.specs.declared.progress.Progress.TheVariants as coded
-use Rattle.rehearsal.specs.Events.{Event, faulted, taken, ending, following, events, heard, go_on, corner_of}
+use Rattle.rehearsal.specs.Events.{Event, faulted, taken, ending, following, events, heard, go_on}
 use Rattle.rehearsal.specs.Hearing.{Eight, can_hear}
 use Rattle.rehearsal.specs.Left.{lines_ahead}
 use Rattle.rehearsal.specs.Listing.{lines_from}
@@ -167,8 +167,8 @@ roomy_after fresh at end n place close r moved = refl
 roomy_after (gathering t cs) at end n place (corner c) r moved =
     let parts = and_parts (leb (2 * length cs + 5) at) (leb n 16383) r in
     let many = leb-true (2 * length cs + 5) at parts.0 in
-    let more = length-append cs (corner_of c ∷ []) in
-    ap (λ b. b && leb n 16383) (le-leb (2 * length (cs ++ corner_of c ∷ []) + 5) end (omega arith)) ∙ parts.1
+    let more = length-append cs (c ∷ []) in
+    ap (λ b. b && leb n 16383) (le-leb (2 * length (cs ++ c ∷ []) + 5) end (omega arith)) ∙ parts.1
 roomy_after (gathering t cs) at end n place (terms u) r moved = opened_roomy t cs place (terms u) end n (opening t cs)
 roomy_after (gathering t cs) at end n place (unit u) r moved = opened_roomy t cs place (unit u) end n (opening t cs)
 roomy_after (gathering t cs) at end n place (exit x) r moved = opened_roomy t cs place (exit x) end n (opening t cs)
@@ -185,7 +185,7 @@ unfolding lines_ahead
 record_lines p q line fs rest place item on e r t =
     ahead_record p fs rest place item (progress_of q) (option_to_list line ++ progress_lines q) on e r t
 
-pub record_fault : (p : Coded) (f : AuctionFault) (fs : List Found) (place : ℕ) (item : Item) → is_over (progress_of p) ≡ false → Ok (Some (place, item)) ≡ handed (due (progress_of p)) fs → taken_as (Err f) ≡ as_lines (taken (progress_of p) place item) → auction_fault_line f ∷ [] ≡ lines_ahead p fs
+pub record_fault : (p : Coded) (f : Unopenable) (fs : List Found) (place : ℕ) (item : Item) → is_over (progress_of p) ≡ false → Ok (Some (place, item)) ≡ handed (due (progress_of p)) fs → taken_as (Err f) ≡ as_lines (taken (progress_of p) place item) → auction_fault_line f ∷ [] ≡ lines_ahead p fs
 record_fault p f fs place item on e t =
     let none : lines_from (events over (later fs)) ≡ [] = ap lines_from (events_over (later fs)) in
     ap (λ z. auction_fault_line f ∷ z) (sym none) ∙ ahead_record p fs (later fs) place item over (auction_fault_line f ∷ []) on e refl t

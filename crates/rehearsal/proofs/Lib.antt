@@ -1,7 +1,7 @@
 pub mod Clocks
 pub mod CallsOf
 pub mod RollRows
-pub mod AwardLines
+pub mod Waits
 pub mod Hears
 pub mod OwnStages
 pub mod Takings

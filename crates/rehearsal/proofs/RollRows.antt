@@ -1,13 +1,15 @@
 -- The roll has at most one row for each unit, and a book at most 512 units; so 512 rows are enough.
-use Rattle.std.proofs.Common.{◌≡◌, ℕ, ◌+◌, ◌≤◌, Bool, true, false, cond, leb, List, [], ◌∷◌, ◌++◌, length, take, drop, Some, None, Ok, Err, fold, Option, Result, refl, ap, ◌∙◌, arith, length-append, le-leb, leb-true}
+use Rattle.std.proofs.Common.{◌≡◌, ℕ, ◌+◌, ◌≤◌, Bool, true, false, cond, leb, List, [], ◌∷◌, ◌++◌, length, drop, Some, None, Ok, Err, fold, Option, Result, refl, ap, ◌∙◌, arith, length-append, le-leb, leb-true}
 use Rattle.std.specs.Option.{option_to_list}
-use Rattle.std.proofs.lemmas.List.{take-append-le, take_all}
+use Rattle.std.specs.Result.{IsOk}
 use Rattle.std.proofs.lemmas.Bool.{and_parts}
 use Rattle.auction.specs.declared.clocks.Stage.TheVariants.{Settled}
 use Rattle.auction.specs.declared.clocks.Stamp.{Stamp}
-use Rattle.auction.specs.Reading.{settlement_of}
+use Rattle.auction.specs.declared.refusal.Refusal.{Refusal}
+use Rattle.auction.specs.Reading.{numbered, settlement_of}
 use Rattle.auction.specs.Rolls.{row_of, rows_of, roll_of, roll_read}
 use Rattle.auction.specs.State.{State, current}
+use Rattle.auction.specs.Steps.{auction_question}
 use Rattle.book.specs.Books.{Books}
 use Rattle.book.specs.declared.unit.Unit.{Unit as Row}
 use Rattle.book.specs.Lawful.{lawful}
@@ -61,27 +63,13 @@ roll_own s c rows own few =
     ap (λ (b : Bool). elim (cond {A = Option ℕ} b (cond {A = Option ℕ} (leb (length (roll_of s (settlement_of s))) (length rows)) None (Some 22)) (Some 9)) as (λ o. Result ℕ ℕ × List RollRow) [ None ↦ all | Some n ↦ (Err n, rows) ]) own
     ∙ ap (λ (b : Bool). elim (cond {A = Option ℕ} b None (Some 22)) as (λ o. Result ℕ ℕ × List RollRow) [ None ↦ all | Some n ↦ (Err n, rows) ]) enough
 
-pub front_is : {A : Type 0} (xs ys : List A) → take (length xs) (xs ++ ys) ≡ xs
-front_is xs ys = take-append-le (length xs) xs ys (omega arith) ∙ take_all (length xs) xs (omega arith)
-
--- what an answer of Roll to its own clock comes to
-pub roll_counted : (s : State) (c : Stamp) (rows after : List RollRow) (n : ℕ) → current s Settled c ≡ true → ◌≡◌ {A = Result ℕ ℕ × List RollRow} (Ok n, after) (roll_read s c rows) → length s.book.units ≤ length rows → (n ≤ length after) × (take n after ≡ roll_of s (settlement_of s))
-roll_counted s c rows after n own e few =
+-- so Roll with its own clock is accepted
+pub roll_accepted : (r : Result ℕ Refusal) (s : State) (c : Stamp) (rows after : List RollRow) → current s Settled c ≡ true → ◌≡◌ {A = Result ℕ ℕ × List RollRow} (numbered r, after) (roll_read s c rows) → length s.book.units ≤ length rows → IsOk r
+roll_accepted (Ok n) s c rows after own e few = refl
+roll_accepted (Err why) s c rows after own e few =
     let roll : List RollRow = roll_of s (settlement_of s) in
     let short = roll_short s (settlement_of s) in
     let all = e ∙ roll_own s c rows own (omega arith) in
-    let counted : Ok n ≡ Ok (length roll) = ap (λ p. p.0) all in
-    let is : n ≡ length roll = cc counted in
-    let written : after ≡ roll ++ drop (length roll) rows = ap (λ p. p.1) all in
-    let long = length-append roll (drop (length roll) rows) in
-    let after-long : length after ≡ length (roll ++ drop (length roll) rows) = ap length written in
-    (omega arith, ap (λ k. take k after) is ∙ ap (λ l. take (length roll) l) written ∙ front_is roll (drop (length roll) rows))
-
-pub roll_unrefused : (s : State) (c : Stamp) (rows after : List RollRow) (n : ℕ) → current s Settled c ≡ true → ◌≡◌ {A = Result ℕ ℕ × List RollRow} (Err n, after) (roll_read s c rows) → length s.book.units ≤ length rows → ⊥
-roll_unrefused s c rows after n own e few =
-    let roll : List RollRow = roll_of s (settlement_of s) in
-    let short = roll_short s (settlement_of s) in
-    let all = e ∙ roll_own s c rows own (omega arith) in
-    let counted : Err n ≡ Ok (length roll) = ap (λ p. p.0) all in
+    let counted : Err (auction_question why) ≡ Ok (length roll) = ap (λ p. p.0) all in
     let z : ◌≡◌ {A = ℕ} 0 1 = cc counted in
-    omega arith
+    absurd (omega arith)

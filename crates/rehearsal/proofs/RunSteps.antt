@@ -14,26 +14,13 @@ use Rattle.listing.specs.declared.line.Line.TheVariants as line
 use Rattle.listing.specs.Faults.{fault_line}
 use Rattle.rehearsal.specs.declared.progress.Progress.{Progress as Coded}
 use Rattle.rehearsal.specs.declared.progress.Progress.TheVariants as coded
-use Rattle.rehearsal.specs.declared.stages.Session.{Session}
-use Rattle.rehearsal.specs.declared.stages.Session.TheVariants.{Enrolling, Open, Shut, Settled}
 use Rattle.rehearsal.specs.declared.storage.Storage.{Storage}
-use Rattle.rehearsal.specs.Chosen.{auction_state}
 use Rattle.rehearsal.specs.Events.{events}
 use Rattle.rehearsal.specs.Left.{lines_ahead}
 use Rattle.rehearsal.specs.Listing.{listing, lines_from}
 use Rattle.rehearsal.specs.Progress.{fresh, is_over}
-use Rattle.rehearsal.specs.Saying.{settled_lines, stage_lines}
-use Rattle.rehearsal.specs.Sessions.{session_state}
 use Rattle.rehearsal.specs.Takes.{progress_of}
-use Rattle.rehearsal.specs.Waits.{session_lines}
 use Rattle.rehearsal.proofs.Advances.{over_ahead}
-use Rattle.rehearsal.proofs.OwnStages.{stage_is}
-
-pub session_lines_are : (x : Session) → session_lines x ≡ settled_lines (session_state x)
-session_lines_are (Enrolling e) = sym (ap (stage_lines (auction_state e.auction)) (stage_is (Enrolling e)))
-session_lines_are (Open o) = sym (ap (stage_lines (auction_state o.auction)) (stage_is (Open o)))
-session_lines_are (Shut o) = sym (ap (stage_lines (auction_state o.auction)) (stage_is (Shut o)))
-session_lines_are (Settled d) = sym (ap (stage_lines (auction_state d.auction)) (stage_is (Settled d)))
 
 -- a step that a record, or the end of the file, was read in
 

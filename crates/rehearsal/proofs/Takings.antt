@@ -1,11 +1,11 @@
 -- What is made of a record and of the end of the file, part by part.
 use Rattle.std.proofs.Common.{◌≡◌, ℕ, List, [], ◌∷◌, ◌++◌, length, Some, None, Ok, Err, Option, Result, sym, refl, ap, ◌∙◌, arith}
+use Rattle.std.specs.Borrow.{Bor}
 use Rattle.std.specs.Option.{option_to_list}
 use Rattle.auction.specs.declared.clocks.Stage.{Stage}
 use Rattle.auction.specs.declared.clocks.Stage.TheVariants.{Enrolling, Open, Shut, Settled}
 use Rattle.auction.specs.State.{State}
 use Rattle.bidfile.specs.declared.records.TermsRecord.{TermsRecord}
-use Rattle.bidfile.specs.declared.records.CornerRecord.{CornerRecord}
 use Rattle.bidfile.specs.declared.records.Record.{Record}
 use Rattle.bidfile.specs.declared.records.Record.TheVariants.{Terms, Corner as Corner', Unit as Unit', Exit, Years, StepBack, Close}
 use Rattle.bidfile.specs.Items.{Item, item_of}
@@ -52,7 +52,7 @@ opened_takes t corners at item s u line none opens e =
     ∙ ap (λ r. as_lines (gathered t corners at item None r)) opens
     ∙ ap (λ o. as_lines (gathered t corners at item o (opening t corners))) (sym none)
 
-pub not_corner : (r : Record) → ((x : CornerRecord) → r ≡ Corner' x → ⊥) → as_corner (item_of r) ≡ None
+pub not_corner : (r : Record (Bor (List ℕ))) → ((x : Corner) → r ≡ Corner' x → ⊥) → as_corner (item_of r) ≡ None
 not_corner (Terms t) h = refl
 not_corner (Corner' x) h = absurd (h x refl)
 not_corner (Unit' u) h = refl

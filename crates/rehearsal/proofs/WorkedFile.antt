@@ -1,7 +1,8 @@
 -- The worked auction's file, and the records that are found in it.
-use Rattle.std.proofs.Common.{◌≡◌, ℕ, true, false, List, [], ◌∷◌, codes, refl}
+use Rattle.std.proofs.Common.{◌≡◌, ℕ, List, [], ◌∷◌, codes, refl}
 use Rattle.bidfile.specs.declared.records.CurveChoice.TheVariants.{Straight}
 use Rattle.bidfile.specs.declared.records.OrderChoice.TheVariants.{ByRule}
+use Rattle.bidfile.specs.declared.records.SideChoice.TheVariants.{Taker, Maker}
 use Rattle.bidfile.specs.declared.records.TermsRecord.{TermsRecord}
 use Rattle.bidfile.specs.Found.{found}
 use Rattle.bidfile.specs.Items.{Item, terms, corner, unit, exit, years, step_back, close}
@@ -57,11 +58,11 @@ worked_records =
     corner (record { quantity = 10000; price = 7000 })
     ∷ corner (record { quantity = 20000; price = 4000 })
     ∷ corner (record { quantity = 30000; price = 0 })
-    ∷ unit (record { capacity = 9000; class = 0; maker = true; years = 1; random = 4; bytes = codes "HOLT-1  " })
-    ∷ unit (record { capacity = 10000; class = 0; maker = false; years = 1; random = 9; bytes = codes "BECK-2  " })
-    ∷ unit (record { capacity = 1400; class = 2; maker = true; years = 15; random = 2; bytes = codes "COMBE-3 " })
-    ∷ unit (record { capacity = 1000; class = 3; maker = true; years = 1; random = 7; bytes = codes "DALE-4  " })
-    ∷ unit (record { capacity = 2000; class = 1; maker = true; years = 3; random = 5; bytes = codes "EDGE-5  " })
+    ∷ unit (record { capacity = 9000; class = 0; side = Maker; years = 1; random = 4; bytes = codes "HOLT-1  " })
+    ∷ unit (record { capacity = 10000; class = 0; side = Taker; years = 1; random = 9; bytes = codes "BECK-2  " })
+    ∷ unit (record { capacity = 1400; class = 2; side = Maker; years = 15; random = 2; bytes = codes "COMBE-3 " })
+    ∷ unit (record { capacity = 1000; class = 3; side = Maker; years = 1; random = 7; bytes = codes "DALE-4  " })
+    ∷ unit (record { capacity = 2000; class = 1; side = Maker; years = 3; random = 5; bytes = codes "EDGE-5  " })
     ∷ exit (record { unit = 4; price = 5000 })
     ∷ close
     ∷ exit (record { unit = 1; price = 3600 })

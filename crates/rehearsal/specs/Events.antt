@@ -1,5 +1,5 @@
 -- What happens in a run, record by record. Assumes nothing.
-use Rattle.std.specs.Prelude.{ℕ, Bool, true, false, cond, List, [], ◌∷◌, ◌++◌, Some, None, Ok, Err, Option, Result, nat_le}
+use Rattle.std.specs.Prelude.{ℕ, cond, List, [], ◌∷◌, ◌++◌, Some, None, Ok, Err, Option, Result, nat_le}
 use Rattle.auction.specs.declared.calls.Call.{Call}
 use Rattle.auction.specs.declared.calls.Call.TheVariants.{Enrol, Begin, Exit, Years, StepBack, Close, Next}
 use Rattle.auction.specs.declared.clocks.Stage.{Stage}
@@ -7,7 +7,8 @@ use Rattle.auction.specs.declared.clocks.Stage.TheVariants.{Enrolling, Open, Shu
 use Rattle.auction.specs.declared.clocks.Stamp.{Stamp}
 use Rattle.auction.specs.State.{State, stamp_of}
 use Rattle.auction.specs.Steps.{step}
-use Rattle.bidfile.specs.declared.records.CornerRecord.{CornerRecord}
+use Rattle.bidfile.specs.declared.records.SideChoice.{SideChoice}
+use Rattle.bidfile.specs.declared.records.SideChoice.TheVariants as choice
 use Rattle.bidfile.specs.declared.records.TermsRecord.{TermsRecord}
 use Rattle.bidfile.specs.Found.{Found, handed}
 use Rattle.bidfile.specs.Items.{Item, UnitItem, terms, corner, unit, exit, years, step_back, close, item_kind}
@@ -36,25 +37,22 @@ as_terms (years y) = None
 as_terms step_back = None
 as_terms close = None
 
-abbrev pub corner_of : CornerRecord → Corner
-corner_of c = record { quantity = c.quantity; price = c.price }
-
 abbrev pub as_corner : Item → Option Corner
 as_corner (terms t) = None
-as_corner (corner c) = Some (corner_of c)
+as_corner (corner c) = Some c
 as_corner (unit u) = None
 as_corner (exit e) = None
 as_corner (years y) = None
 as_corner step_back = None
 as_corner close = None
 
-abbrev pub side_of : Bool → Side
-side_of false = Taker
-side_of true = Maker
+abbrev pub side_of : SideChoice → Side
+side_of choice.Taker = Taker
+side_of choice.Maker = Maker
 
 abbrev pub application : UnitItem → Application
 application u =
-    record { capacity = u.capacity; class = u.class; side = side_of u.maker; years = u.years; random = u.random; name = u.bytes }
+    record { capacity = u.capacity; class = u.class; side = side_of u.side; years = u.years; random = u.random; name = u.bytes }
 
 -- the calls of a record, each yet to be given its clock
 abbrev pub calls_for : Item → List (Stamp → Call)

@@ -13,7 +13,6 @@ use Rattle.rehearsal.specs.Listing.{lines_from}
 use Rattle.rehearsal.specs.Progress.{is_over}
 use Rattle.rehearsal.specs.Soundness.{sound}
 use Rattle.rehearsal.specs.Takes.{progress_of, progress_lines}
-use Rattle.rehearsal.specs.Waits.{waiting_lines}
 
 -- the lines of what is found, from a progress on
 unfoldable pub lines_ahead : Coded → List Found → List Line
@@ -35,7 +34,7 @@ Further at end words (Err f) = Unit {0}
 
 -- the lines that wait, and then those of what is found from the reader's place on
 abbrev pub lines_left : Run → List Line
-lines_left r = waiting_lines r.waiting ++ lines_ahead r.progress (found r.reader.file.now r.reader.at)
+lines_left r = r.waiting ++ lines_ahead r.progress (found r.reader.file.now r.reader.at)
 
 -- at most so many records are still to be read, the end of the file among them
 abbrev pub steps_left : Run → ℕ
@@ -43,4 +42,4 @@ steps_left r = cond (is_over (progress_of r.progress)) 0 (words r.reader.file.no
 
 -- a run that has not ended, and has no line to give out before it reads on
 abbrev pub Silent : Run → Type 0
-Silent r = (waiting_lines r.waiting ≡ []) × (is_over (progress_of r.progress) ≡ false)
+Silent r = (r.waiting ≡ []) × (is_over (progress_of r.progress) ≡ false)

@@ -6,13 +6,11 @@ use Rattle.bidfile.specs.Items.{Item, item_kind}
 use Rattle.curve.specs.declared.corner.Corner.{Corner}
 use Rattle.listing.specs.declared.line.Line.{Line}
 use Rattle.listing.specs.declared.line.Line.TheVariants as line
-use Rattle.listing.specs.declared.fault.AuctionFault.{AuctionFault}
 use Rattle.listing.specs.declared.fault.Layer.{Layer}
+use Rattle.listing.specs.declared.fault.Unopenable.{Unopenable}
 use Rattle.listing.specs.Faults.{why_layer, why_number}
-use Rattle.rehearsal.specs.Chosen.{auction_state}
 use Rattle.rehearsal.specs.declared.progress.Progress.{Progress as Coded}
 use Rattle.rehearsal.specs.declared.progress.Progress.TheVariants as coded
-use Rattle.rehearsal.specs.declared.stages.Enrolment.{Enrolment}
 use Rattle.rehearsal.specs.Progress.{Progress, fresh, gathering, going, over}
 use Rattle.rehearsal.specs.Events.{Event}
 use Rattle.rehearsal.specs.Hearing.{Eight, Hearable}
@@ -27,14 +25,9 @@ progress_of (coded.Going x) = going (session_state x)
 progress_of coded.Over = over
 
 -- an auction that was opened, or why not, as the model has it
-abbrev pub opened_as : Result Enrolment AuctionFault → Result State (Layer × ℕ)
-opened_as (Ok e) = Ok (auction_state e.auction)
-opened_as (Err f) = Err (why_layer f.why, why_number f.why)
-
--- such a fault has the place 0
-abbrev pub Placeless : Result Enrolment AuctionFault → Type 0
-Placeless (Ok e) = Unit {0}
-Placeless (Err f) = f.place ≡ 0
+abbrev pub opened_as : {H : Type 0} → Result H Unopenable → (H → State) → Result State (Layer × ℕ)
+opened_as (Ok held) state_of = Ok (state_of held)
+opened_as (Err why) state_of = Err (why_layer why, why_number why)
 
 -- the lines of a settlement, if the auction has just come to it
 abbrev pub progress_lines : Coded → List Line
@@ -44,11 +37,11 @@ progress_lines (coded.Going x) = settled_lines (session_state x)
 progress_lines coded.Over = []
 
 -- a fault that no record is to blame for
-abbrev pub auction_fault_line : AuctionFault → Line
-auction_fault_line f = line.Fault (why_layer f.why) (why_number f.why) f.place
+abbrev pub auction_fault_line : Unopenable → Line
+auction_fault_line why = line.Fault (why_layer why) (why_number why) 0
 
 -- what is made of a record: how far the run is then, and what is printed
-abbrev pub taken_as : Result (Coded × Option Line) AuctionFault → Progress × List Line
+abbrev pub taken_as : Result (Coded × Option Line) Unopenable → Progress × List Line
 taken_as (Ok p) = (progress_of p.0, option_to_list p.1 ++ progress_lines p.0)
 taken_as (Err f) = (over, auction_fault_line f ∷ [])
 
@@ -57,7 +50,7 @@ abbrev pub as_lines : List Event × Progress → Progress × List Line
 as_lines h = (h.1, lines_from h.0)
 
 -- what is made of the end of the file
-abbrev pub ended_as : Result (Option Line) AuctionFault → List Line
+abbrev pub ended_as : Result (Option Line) Unopenable → List Line
 ended_as (Ok l) = option_to_list l
 ended_as (Err f) = auction_fault_line f ∷ []
 
@@ -78,6 +71,6 @@ unshut_in (coded.Gathering g) = true
 unshut_in (coded.Going x) = unshut (session_stage x)
 unshut_in coded.Over = true
 
-abbrev pub Unshut : Result (Coded × Option Line) AuctionFault → Type 0
+abbrev pub Unshut : Result (Coded × Option Line) Unopenable → Type 0
 Unshut (Ok p) = unshut_in p.0 ≡ true
 Unshut (Err f) = Unit {0}

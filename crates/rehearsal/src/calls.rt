@@ -1,59 +1,45 @@
 // The calls that records are made into, and the first line of what each answers.
 
-ghost use Rattle.std.specs.Prelude.{◌≡◌, ℕ, ◌-◌, length, Some};
+ghost use Rattle.std.specs.Prelude.{◌≡◌, ℕ, length, Some};
 ghost use Rattle.auction.specs.Steps.{enrolled, exited, served, went_back, closed};
 ghost use Rattle.bidfile.specs.Items.{item_of, unit_item};
 ghost use Rattle.auction.specs.declared.clocks.Stage.TheVariants as stage;
-ghost use Rattle.listing.specs.declared.line.Line.TheVariants as line;
 ghost use Rattle.rehearsal.specs.Chosen.{auction_state};
 ghost use Rattle.rehearsal.specs.Events.{application, side_of};
 ghost use Rattle.rehearsal.specs.Saying.{said_no, reply};
 ghost use Rattle.rehearsal.specs.Hearing.{after_begin, after_next, called, Callable};
 ghost use Rattle.rehearsal.specs.Sessions.{session_state};
 
-use crate::stages::{Enrolment, OpenRound, Session, Settled, ShutRound};
-use auction::{Closed, Figures, Refusal};
-use bidfile::{ExitRecord, Record, UnitRecord, YearsRecord};
+use crate::numbers::RoundNumbers;
+use crate::stages::{Held, Session};
+use auction::{Closed, Enrolling, Open, Refusal, Shut};
+use bidfile::{ExitRecord, Placed, Record, SideChoice, UnitRecord, YearsRecord};
 use book::{Application, Side};
 use listing::Line;
-
-fn refused_line(question: u32, place: usize) -> Line
-    ensures { result ≡ line.Refused question place }
-{
-    Line::Refused { question, place }
-}
 
 // The line of a call that refused, if it did.
 fn refusal_line<T: Drop>(res: Result<T, Refusal>, place: usize) -> Option<Line>
     ensures { result ≡ said_no place res }
 {
-    match res {
-        Ok(_) => None,
-        Err(why) => Some(refused_line(why.number(), place)),
-    }
+    let why = res.err()?;
+    Some(Line::Refused {
+        question: u32::from(why),
+        place,
+    })
 }
 
-fn round_line(round: u32, top: u32, spread: u32, figures: Figures) -> Line
-    ensures { result ≡ line.Round round top (top - spread) figures.capacity_in figures.demand }
+// No impl of From may stand here, nor below: neither type is of this crate.
+fn side(choice: SideChoice) -> Side
+    ensures { result ≡ side_of choice }
 {
-    let floor = top.saturating_sub(spread);
-    Line::Round {
-        round,
-        cap: top,
-        floor,
-        capacity_in: figures.capacity_in,
-        demand: figures.demand,
+    match choice {
+        SideChoice::Taker => Side::Taker,
+        SideChoice::Maker => Side::Maker,
     }
-}
-
-fn side(is_maker: bool) -> Side
-    ensures { result ≡ side_of is_maker }
-{
-    if is_maker { Side::Maker } else { Side::Taker }
 }
 
 // What a unit record applies for; its name has eight bytes.
-fn applied(unit: UnitRecord) -> Application
+fn applied(unit: UnitRecord<&[u8]>) -> Application
     requires { length unit.name.now ≡ 8 }
     ensures { result ≡ application (unit_item unit.entry) }
 {
@@ -62,14 +48,14 @@ fn applied(unit: UnitRecord) -> Application
     Application {
         capacity: unit.capacity,
         class: unit.class,
-        side: side(unit.is_maker),
+        side: side(unit.side),
         years: unit.years,
         random: unit.random,
         name,
     }
 }
 
-impl Enrolment {
+impl Held<Enrolling> {
     fn enrol(&mut self, place: usize, said: &Application) -> Option<Line>
         ensures { (auction_state self.new.auction, result) ≡ reply place (auction_state self.old.auction) (enrolled (auction_state self.old.auction) self.old.clock.stamp said.now) }
     {
@@ -78,43 +64,40 @@ impl Enrolment {
     }
 
     // Makes the call of a unit record.
-    pub(crate) fn call(mut self, place: usize, said: Record) -> (Session, Option<Line>)
-        requires { Callable stage.Enrolling (item_of said) }
-        ensures { (session_state result.0, result.1) ≡ called place (auction_state self.auction) (item_of said.entry) }
+    pub(crate) fn call(mut self, said: Placed) -> (Session, Option<Line>)
+        requires { Callable stage.Enrolling (item_of said.«record») }
+        ensures { (session_state result.0, result.1) ≡ called said.entry.place (auction_state self.auction) (item_of said.entry.«record») }
     {
-        match said {
-            Record::Unit(unit) => {
-                let line = self.enrol(place, &applied(unit));
-                (Session::Enrolling(self), line)
-            }
-            _ => unreachable(),
-        }
+        let Record::Unit(unit) = said.record else {
+            unreachable()
+        };
+        let line = self.enrol(said.place, &applied(unit));
+        (Session::Enrolling(self), line)
     }
 
     // Ends the enrolment, and opens round 1.
-    pub(crate) fn begin(self) -> OpenRound
+    pub(crate) fn begin(self) -> Held<Open>
         ensures { auction_state result.auction ≡ after_begin (auction_state self.auction) }
     {
-        let Enrolment {
+        let Held {
             mut auction,
             clock,
-            top,
-            spread,
+            numbers,
         } = self;
-        match auction.begin(clock) {
-            Ok(clock) => OpenRound {
-                auction,
-                clock,
-                round: 1,
-                top,
-                spread,
-            },
-            Err(_) => unreachable(),
+        let clock = auction.begin(clock).unwrap();
+        let numbers = RoundNumbers {
+            round: 1,
+            ..numbers
+        };
+        Held {
+            auction,
+            clock,
+            numbers,
         }
     }
 }
 
-impl OpenRound {
+impl Held<Open> {
     fn exit(&mut self, place: usize, said: ExitRecord) -> Option<Line>
         ensures { (auction_state self.new.auction, result) ≡ reply place (auction_state self.old.auction) (exited (auction_state self.old.auction) self.old.clock.stamp said.unit said.price) }
     {
@@ -144,47 +127,42 @@ impl OpenRound {
     fn close(self) -> (Session, Line)
         ensures { (at : ℕ) → (session_state result.0, Some result.1) ≡ reply at (auction_state self.auction) (closed (auction_state self.auction) self.clock.stamp) }
     {
-        let OpenRound {
+        let Held {
             mut auction,
             clock,
-            round,
-            top,
-            spread,
+            numbers,
         } = self;
-        match auction.close(clock) {
-            Ok((figures, closed)) => {
-                let line = round_line(round, top, spread, figures);
-                match closed {
-                    Closed::Shut(clock) => {
-                        let shut = ShutRound {
-                            auction,
-                            clock,
-                            round,
-                            top,
-                            spread,
-                        };
-                        (Session::Shut(shut), line)
-                    }
-                    Closed::Settled(clock) => {
-                        (Session::Settled(Settled { auction, clock }), line)
-                    }
-                }
+        let (figures, closed) = auction.close(clock).unwrap();
+        let line = numbers.line(figures);
+        match closed {
+            Closed::Shut(clock) => {
+                let shut = Held {
+                    auction,
+                    clock,
+                    numbers,
+                };
+                (Session::Shut(shut), line)
             }
-            Err(_) => unreachable(),
+            Closed::Settled(clock) => {
+                let settled = Held {
+                    auction,
+                    clock,
+                    numbers,
+                };
+                (Session::Settled(settled), line)
+            }
         }
     }
-}
 
-impl OpenRound {
     // Makes the call of an exit, years, step back or close record.
-    pub(crate) fn call(mut self, place: usize, said: Record) -> (Session, Option<Line>)
-        requires { Callable stage.Open (item_of said) }
-        ensures { (session_state result.0, result.1) ≡ called place (auction_state self.auction) (item_of said.entry) }
+    pub(crate) fn call(mut self, said: Placed) -> (Session, Option<Line>)
+        requires { Callable stage.Open (item_of said.«record») }
+        ensures { (session_state result.0, result.1) ≡ called said.entry.place (auction_state self.auction) (item_of said.entry.«record») }
     {
-        let line = match said {
-            Record::Exit(exit) => self.exit(place, exit),
-            Record::Years(years) => self.years(place, years),
-            Record::StepBack => self.step_back(place),
+        let line = match said.record {
+            Record::Exit(exit) => self.exit(said.place, exit),
+            Record::Years(years) => self.years(said.place, years),
+            Record::StepBack => self.step_back(said.place),
             Record::Close => {
                 let (session, line) = self.close();
                 return (session, Some(line));
@@ -195,27 +173,26 @@ impl OpenRound {
     }
 }
 
-impl ShutRound {
+impl Held<Shut> {
     // Opens the next round; the old floor is its cap.
-    pub(crate) fn next(self) -> OpenRound
+    pub(crate) fn next(self) -> Held<Open>
         ensures { auction_state result.auction ≡ after_next (auction_state self.auction) }
     {
-        let ShutRound {
+        let Held {
             mut auction,
             clock,
-            round,
-            top,
-            spread,
+            numbers,
         } = self;
-        match auction.next(clock) {
-            Ok(clock) => OpenRound {
-                auction,
-                clock,
-                round: round + 1,
-                top: top.saturating_sub(spread),
-                spread,
-            },
-            Err(_) => unreachable(),
+        let clock = auction.next(clock).unwrap();
+        let numbers = RoundNumbers {
+            round: numbers.round + 1,
+            top: numbers.floor(),
+            ..numbers
+        };
+        Held {
+            auction,
+            clock,
+            numbers,
         }
     }
 }

@@ -1,8 +1,8 @@
 // The run of a bid file: its records are made into calls on an auction, and their answers into the lines of a listing.
 #![tactic(auto)]
 
-mod awards;
 mod calls;
+mod numbers;
 mod opening;
 mod progress;
 mod results;

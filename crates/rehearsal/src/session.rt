@@ -9,7 +9,7 @@ ghost use Rattle.rehearsal.specs.Saying.{in_full, spoken};
 ghost use Rattle.rehearsal.specs.Sessions.{session_state, session_stage, unshut};
 
 use crate::stages::Session;
-use bidfile::{Due, Record};
+use bidfile::{Due, Placed, Record};
 use listing::Line;
 
 impl Session {
@@ -35,7 +35,7 @@ impl Session {
     }
 
     // Begins the auction before the first record of kind 4 to 7.
-    fn begun_for(self, said: &Record) -> Session
+    fn begun_for(self, said: &Record<&[u8]>) -> Session
         ensures { session_state result ≡ begun_for (session_state self) (item_of said.now) (session_stage self) }
     {
         match said {
@@ -45,13 +45,13 @@ impl Session {
     }
 
     // Makes the call of a record.
-    fn call(self, place: usize, said: Record) -> (Session, Option<Line>)
-        requires { Callable (session_stage self) (item_of said) }
-        ensures { (session_state result.0, result.1) ≡ called place (session_state self) (item_of said.entry) }
+    fn call(self, said: Placed) -> (Session, Option<Line>)
+        requires { Callable (session_stage self) (item_of said.«record») }
+        ensures { (session_state result.0, result.1) ≡ called said.entry.place (session_state self) (item_of said.entry.«record») }
     {
         match self {
-            Session::Enrolling(enrolment) => enrolment.call(place, said),
-            Session::Open(round) => round.call(place, said),
+            Session::Enrolling(enrolment) => enrolment.call(said),
+            Session::Open(round) => round.call(said),
             Session::Shut(_) | Session::Settled(_) => unreachable(),
         }
     }
@@ -69,12 +69,12 @@ impl Session {
 
     // Hears a record: begins if it has to, makes the record's call, and goes on behind a round that was shut. The line is
     // the first of what is printed.
-    pub(crate) fn hear(self, place: usize, said: Record) -> (Session, Option<Line>)
-        requires { Hearable (session_stage self) (item_of said) }
-        ensures lines { in_full (session_state result.0, result.1) ≡ spoken (heard place (session_state self) (item_of said.entry)) }
+    pub(crate) fn hear(self, said: Placed) -> (Session, Option<Line>)
+        requires { Hearable (session_stage self) (item_of said.«record») }
+        ensures lines { in_full (session_state result.0, result.1) ≡ spoken (heard said.entry.place (session_state self) (item_of said.entry.«record»)) }
         ensures stage { unshut (session_stage result.0) ≡ true }
     {
-        let (session, line) = self.begun_for(&said).call(place, said);
+        let (session, line) = self.begun_for(&said.record).call(said);
         (session.gone_on(), line)
     }
 }

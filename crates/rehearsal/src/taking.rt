@@ -2,7 +2,7 @@
 
 ghost use Rattle.std.specs.Prelude.{◌≡◌, ◌<◌, [], ◌∷◌, ◌++◌, length};
 ghost use Rattle.bidfile.specs.Items.{item_of};
-ghost use Rattle.rehearsal.specs.Events.{taken, ending, left, unless_settled, corner_of};
+ghost use Rattle.rehearsal.specs.Events.{taken, ending, left, unless_settled};
 ghost use Rattle.rehearsal.specs.Hearing.{begun_in};
 ghost use Rattle.rehearsal.specs.Listing.{lines_from};
 ghost use Rattle.rehearsal.specs.Progress.{due, gathering, is_over};
@@ -13,9 +13,9 @@ ghost use Rattle.std.specs.Option.{option_to_list};
 use crate::progress::Progress;
 use crate::stages::Session;
 use crate::storage::{Gathering, Storage};
-use bidfile::{CornerRecord, Due, Record, TermsRecord};
+use bidfile::{Due, Placed, Record, TermsRecord};
 use curve::Corner;
-use listing::{AuctionFault, Line};
+use listing::{Line, Unopenable};
 
 impl Storage {
     // The terms have come.
@@ -34,29 +34,26 @@ impl Storage {
 
 impl Gathering {
     // A corner has come.
-    fn keep(mut self, said: CornerRecord) -> Gathering
+    fn keep(mut self, said: Corner) -> Gathering
         requires { length self.corners.items < 8191 }
         ensures terms { result.terms ≡ self.terms }
-        ensures corners { result.corners.items ≡ self.corners.items ++ corner_of said ∷ [] }
+        ensures corners { result.corners.items ≡ self.corners.items ++ said ∷ [] }
     {
-        self.corners.push_reserved(Corner {
-            quantity: said.quantity,
-            price: said.price,
-        });
+        self.corners.push_reserved(said);
         self
     }
 
     // Keeps a corner; any other record opens the auction, which hears it.
-    fn take(self, place: usize, said: Record) -> Result<(Progress, Option<Line>), AuctionFault>
-        requires { Keepable self.corners.items (item_of said) }
-        ensures lines { taken_as result ≡ as_lines (taken (gathering self.terms self.corners.items) place (item_of said.entry)) }
+    fn take(self, said: Placed) -> Result<(Progress, Option<Line>), Unopenable>
+        requires { Keepable self.corners.items (item_of said.«record») }
+        ensures lines { taken_as result ≡ as_lines (taken (gathering self.terms self.corners.items) said.entry.place (item_of said.entry.«record»)) }
         ensures stage { Unshut result }
     {
-        if let Record::Corner(corner) = said {
+        if let Record::Corner(corner) = said.record {
             return Ok((Progress::Gathering(self.keep(corner)), None));
         }
-        let enrolment = self.open()?;
-        let (session, line) = Session::Enrolling(enrolment).hear(place, said);
+        let held = self.open()?;
+        let (session, line) = Session::Enrolling(held).hear(said);
         Ok((Progress::Going(session), line))
     }
 }
@@ -106,25 +103,21 @@ impl Progress {
     }
 
     // Takes a record that is in turn. The line is the first of what is printed.
-    pub(crate) fn take(
-        self,
-        place: usize,
-        said: Record,
-    ) -> Result<(Progress, Option<Line>), AuctionFault>
-        requires { Takeable self (item_of said) }
-        ensures lines { taken_as result ≡ as_lines (taken (progress_of self) place (item_of said.entry)) }
+    pub(crate) fn take(self, said: Placed) -> Result<(Progress, Option<Line>), Unopenable>
+        requires { Takeable self (item_of said.«record») }
+        ensures lines { taken_as result ≡ as_lines (taken (progress_of self) said.entry.place (item_of said.entry.«record»)) }
         ensures stage { Unshut result }
     {
         match self {
             Progress::Fresh(storage) => {
-                let Record::Terms(terms) = said else {
+                let Record::Terms(terms) = said.record else {
                     unreachable()
                 };
                 Ok((Progress::Gathering(storage.gather(terms)), None))
             }
-            Progress::Gathering(gathering) => gathering.take(place, said),
+            Progress::Gathering(gathering) => gathering.take(said),
             Progress::Going(session) => {
-                let (session, line) = session.hear(place, said);
+                let (session, line) = session.hear(said);
                 Ok((Progress::Going(session), line))
             }
             Progress::Over => unreachable(),
@@ -132,14 +125,14 @@ impl Progress {
     }
 
     // The end of the file: what is still to do is done, and the line says if there was no settlement.
-    pub(crate) fn finish(self) -> Result<Option<Line>, AuctionFault>
+    pub(crate) fn finish(self) -> Result<Option<Line>, Unopenable>
         ensures { ended_as result ≡ lines_from (ending (progress_of self)) }
     {
         match self {
             Progress::Fresh(_) | Progress::Over => Ok(None),
             Progress::Gathering(gathering) => {
-                let enrolment = gathering.open()?;
-                let (_, line) = Session::Enrolling(enrolment).finish();
+                let held = gathering.open()?;
+                let (_, line) = Session::Enrolling(held).finish();
                 Ok(line)
             }
             Progress::Going(session) => {

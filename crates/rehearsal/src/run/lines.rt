@@ -29,7 +29,7 @@ fn advance<'a>(
 {
     match reader.next(progress.due())? {
         Some(placed) => {
-            let taken = progress.take(placed.place, placed.record)?;
+            let taken = progress.take(placed)?;
             Ok(taken)
         }
         None => {
@@ -79,7 +79,7 @@ pub fn rehearse<'a>(file: &'a [u8], storage: Storage) -> Run<'a>
 {
     let reader = Reader::new(file);
     if let Err(fault) = reader.check() {
-        let line = Fault::File(fault).line();
+        let line = Line::from(Fault::from(fault));
         return Run {
             reader,
             progress: Progress::Over,

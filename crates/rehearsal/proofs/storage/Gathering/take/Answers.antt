@@ -9,6 +9,6 @@ pub returns : goal.returns
 returns c =
     let was = c.args.self in
     record {
-      lines = opened_takes was.terms (vec_items was.corners) c.args.place (item_of c.args.said) (auction_state c.in_ok-enrolment.enrolment.auction) (session_state c.hear-session.result.0) c.hear-session.result.1 (not_corner c.args.said c.in_default.not-Corner) c.in_ok-enrolment.ensures.auction c.hear-session.ensures.lines;
+      lines = opened_takes was.terms (vec_items was.corners) c.args.said.place (item_of c.args.said.«record») (auction_state c.in_ok-held.held.auction) (session_state c.hear-session.result.0) c.hear-session.result.1 (not_corner c.args.said.«record» c.in_default.not-Corner) c.in_ok-held.ensures c.hear-session.ensures.lines;
       stage = c.hear-session.ensures.stage;
     }
