@@ -13,32 +13,24 @@ const MOST_READ: u64 = 65_533;
 
 fn read_file(rt: &HostRuntime) -> Result<Vec<u8>, Failure> {
     let mut file = Vec::new(rt.alloc());
-    match rt.stdin().take(MOST_READ).read_to_end(&mut file) {
-        Ok(_) => Ok(file),
-        Err(_) => Err(Failure::Reading),
-    }
+    rt.stdin()
+        .take(MOST_READ)
+        .read_to_end(&mut file)
+        .map_err(|_| Failure::Reading)?;
+    Ok(file)
 }
 
 fn print_listing(rt: &HostRuntime, file: &[u8], storage: Storage) -> Result<(), Failure> {
-    let Ok(mut out) = BufWriter::new(rt.alloc(), rt.stdout()) else {
-        return Err(Failure::Memory);
-    };
+    let mut out = BufWriter::new(rt.alloc(), rt.stdout()).map_err(|_| Failure::Memory)?;
     let mut run = rehearse(file, storage);
     while let Some(line) = run.next_line() {
-        if writeln!(out, "{line}").is_err() {
-            return Err(Failure::Writing);
-        }
+        writeln!(out, "{line}").map_err(|_| Failure::Writing)?;
     }
-    match out.flush() {
-        Ok(()) => Ok(()),
-        Err(_) => Err(Failure::Writing),
-    }
+    out.flush().map_err(|_| Failure::Writing)
 }
 
 fn run(rt: &HostRuntime) -> Result<(), Failure> {
-    let Ok(storage) = Storage::new(rt.alloc()) else {
-        return Err(Failure::Memory);
-    };
+    let storage = Storage::new(rt.alloc()).map_err(|_| Failure::Memory)?;
     let file = read_file(rt)?;
     print_listing(rt, file.as_slice(), storage)
 }
