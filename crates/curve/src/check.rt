@@ -52,6 +52,6 @@ pub(crate) fn check(shape: Shape, corners: &[Corner]) -> Result<(), CurveRefusal
     }
     match shape {
         Shape::Lines if !are_near(corners) => Err(CurveRefusal::CornerGap),
-        _ => Ok(()),
+        Shape::Lines | Shape::Steps => Ok(()),
     }
 }

@@ -9,6 +9,7 @@ use crate::cornered::Cornered;
 use crate::form::Form;
 use crate::side::Side;
 
+// `reach` and `measure` are loops, since each turn needs the corner before and what was summed so far.
 impl<S: Form> Cornered<S> {
     // Where the curve begins: before the first corner the price is the first corner's.
     fn origin(&self) -> Corner
