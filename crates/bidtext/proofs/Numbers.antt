@@ -1,11 +1,16 @@
--- Numbers that are read up to a limit. Assumes nothing.
-use Rattle.std.proofs.Common.{◌≡◌, ℕ, ◌+◌, ◌-◌, ◌*◌, min, List, [], ◌∷◌, arith}
+-- Numbers that are read digit by digit, up to a limit. Assumes nothing.
+use Rattle.std.proofs.Common.{◌≡◌, ℕ, ◌+◌, ◌-◌, ◌*◌, ◌≤◌, List, [], ◌∷◌, min, arith}
+use Rattle.std.specs.List.{fold}
 use Rattle.bidtext.specs.Values.{value_after}
 
-step : (m n d : ℕ) → min m 268435456 ≡ min n 268435456 → min (m * 10 + d) 268435456 ≡ min (n * 10 + d) 268435456
-step m n d e = omega arith
+-- one digit more
+abbrev pub more : ℕ → ℕ → ℕ
+more n b = min (min (min (n * 10) 4294967295 + (b - 48)) 4294967295) 268435456
+
+step : (m n b : ℕ) → min m 268435456 ≡ min n 268435456 → min (more m b) 268435456 ≡ min (n * 10 + (b - 48)) 268435456
+step m n b e = omega arith
 
 -- numbers that agree up to the limit go on to agree
-pub agree : (m n : ℕ) (bs : List ℕ) → min m 268435456 ≡ min n 268435456 → min (value_after m bs) 268435456 ≡ min (value_after n bs) 268435456
-agree m n [] e = e
-agree m n (b ∷ bs) e = agree (m * 10 + (b - 48)) (n * 10 + (b - 48)) bs (step m n (b - 48) e)
+pub folded : (m n : ℕ) (bs : List ℕ) → m ≤ 268435456 → min m 268435456 ≡ min n 268435456 → fold more m bs ≡ min (value_after n bs) 268435456
+folded m n [] le e = omega arith
+folded m n (b ∷ bs) le e = folded (more m b) (n * 10 + (b - 48)) bs (omega arith) (step m n b e)

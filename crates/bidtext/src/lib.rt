@@ -2,6 +2,7 @@
 #![tactic(auto)]
 
 mod backwards;
+mod choices;
 mod expected;
 mod faults;
 mod fields;

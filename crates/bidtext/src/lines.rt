@@ -6,13 +6,14 @@ ghost use Rattle.bidtext.specs.Texts.{line_text};
 ghost use Rattle.bidtext.specs.Fields.{fields, field_at};
 ghost use Rattle.bidtext.specs.Lines.{labelled, terms_line, pair_line, corner_line, unit_line, exit_line, years_line, entry_in, record_in, line_record};
 
+use crate::choices::read_choice;
 use crate::expected::Expected;
 use crate::fields::field;
 use crate::names::read_name;
-use crate::values::{
-    is_word, read_class, read_curve, read_end, read_number, read_order, read_side, read_word,
+use crate::values::{is_word, read_class, read_end, read_number, read_word};
+use bidfile::{
+    CurveChoice, ExitRecord, OrderChoice, Record, SideChoice, TermsRecord, UnitRecord, YearsRecord,
 };
-use bidfile::{ExitRecord, Record, TermsRecord, UnitRecord, YearsRecord};
 use curve::Corner;
 
 // A number behind its word, which stands at a place.
@@ -36,9 +37,19 @@ fn read_terms(line: &[u8]) -> Result<TermsRecord, Expected>
     let spread = read_labelled(line, 3, b"spread", Expected::Spread)?;
     let threshold = read_labelled(line, 5, b"threshold", Expected::Threshold)?;
     read_word(field(line, 7), b"curve", Expected::Curve)?;
-    let curve = read_curve(field(line, 8))?;
+    let curve = read_choice(
+        field(line, 8),
+        CurveChoice::Straight,
+        CurveChoice::Stepped,
+        Expected::CurveChoice,
+    )?;
     read_word(field(line, 9), b"order", Expected::Order)?;
-    let order = read_order(field(line, 10))?;
+    let order = read_choice(
+        field(line, 10),
+        OrderChoice::ByRule,
+        OrderChoice::ByName,
+        Expected::OrderChoice,
+    )?;
     read_end(field(line, 11))?;
     Ok(TermsRecord {
         cap,
@@ -72,7 +83,12 @@ fn read_unit(line: &[u8]) -> Result<UnitRecord<[u8; 8]>, Expected>
     let name = read_name(field(line, 1))?;
     let capacity = read_number(field(line, 2))?;
     let class = read_class(field(line, 3))?;
-    let side = read_side(field(line, 4))?;
+    let side = read_choice(
+        field(line, 4),
+        SideChoice::Taker,
+        SideChoice::Maker,
+        Expected::Side,
+    )?;
     let years = read_labelled(line, 5, b"years", Expected::Years)?;
     let random = read_labelled(line, 7, b"random", Expected::Random)?;
     read_end(field(line, 9))?;
@@ -104,19 +120,18 @@ fn read_years(line: &[u8]) -> Result<YearsRecord, Expected>
 fn read_entry(line: &[u8]) -> Result<Record<[u8; 8]>, Expected>
     ensures { result ≡ entry_in (fields line.now) }
 {
-    let word = field(line, 0);
-    if is_word(word, b"exit") {
-        Ok(Record::Exit(read_exit(line)?))
-    } else if is_word(word, b"years") {
-        Ok(Record::Years(read_years(line)?))
-    } else if is_word(word, b"back") {
-        read_end(field(line, 1))?;
-        Ok(Record::StepBack)
-    } else if is_word(word, b"close") {
-        read_end(field(line, 1))?;
-        Ok(Record::Close)
-    } else {
-        Err(Expected::Record)
+    match field(line, 0) {
+        b"exit" => read_exit(line).map(Record::Exit),
+        b"years" => read_years(line).map(Record::Years),
+        b"back" => {
+            read_end(field(line, 1))?;
+            Ok(Record::StepBack)
+        }
+        b"close" => {
+            read_end(field(line, 1))?;
+            Ok(Record::Close)
+        }
+        _ => Err(Expected::Record),
     }
 }
 
@@ -124,12 +139,13 @@ fn read_record(line: &[u8]) -> Result<Record<[u8; 8]>, Expected>
     ensures { result ≡ record_in (fields line.now) }
 {
     let word = field(line, 0);
+    // Not a `match` on the words: its proof passed the limits of the search.
     if is_word(word, b"auction") {
-        Ok(Record::Terms(read_terms(line)?))
+        read_terms(line).map(Record::Terms)
     } else if is_word(word, b"corner") {
-        Ok(Record::Corner(read_corner(line)?))
+        read_corner(line).map(Record::Corner)
     } else if is_word(word, b"unit") {
-        Ok(Record::Unit(read_unit(line)?))
+        read_unit(line).map(Record::Unit)
     } else {
         read_entry(line)
     }

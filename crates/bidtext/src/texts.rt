@@ -1,41 +1,15 @@
 ghost use Rattle.std.specs.Prelude.{◌≡◌, ◌<◌, ◌≤◌, ◌++◌, length, IfOk, string_bytes, codes};
 ghost use Rattle.bidfile.specs.Items.{item_of, unit_item, terms, unit};
-ghost use Rattle.bidtext.specs.Texts.{curve_word, order_word, side_word, class_word, hex_digit, hex_pair, marks, is_plain, name_word, line_text};
+ghost use Rattle.bidtext.specs.Texts.{class_word, hex_digit, hex_pair, marks, is_plain, name_word, line_text};
 ghost use Rattle.bidtext.specs.Letters.{space};
 ghost use Rattle.std.specs.List.{flat_map, list_all};
 
+use crate::choices::Choice;
 use crate::letters::is_mark;
 use crate::names::is_hexed;
-use bidfile::{CurveChoice, OrderChoice, Record, SideChoice, TermsRecord, UnitRecord};
+use bidfile::{Record, TermsRecord, UnitRecord};
 use std::alloc::{AllocError, Global};
 use std::str::from_utf8;
-
-fn curve_word(curve: CurveChoice) -> &'static str
-    ensures { result.now ≡ curve_word curve }
-{
-    match curve {
-        CurveChoice::Straight => "straight",
-        CurveChoice::Stepped => "stepped",
-    }
-}
-
-fn order_word(order: OrderChoice) -> &'static str
-    ensures { result.now ≡ order_word order }
-{
-    match order {
-        OrderChoice::ByRule => "rule",
-        OrderChoice::ByName => "name",
-    }
-}
-
-fn side_word(side: SideChoice) -> &'static str
-    ensures { result.now ≡ side_word side }
-{
-    match side {
-        SideChoice::Taker => "taker",
-        SideChoice::Maker => "maker",
-    }
-}
 
 fn class_text(heap: Global, class: u32) -> Result<String, AllocError>
     ensures { IfOk result (λ s. string_bytes s ≡ class_word class) }
@@ -111,8 +85,8 @@ fn terms_text(heap: Global, record: TermsRecord) -> Result<String, AllocError>
     let cap = record.cap;
     let spread = record.spread;
     let threshold = record.threshold;
-    let curve = curve_word(record.curve);
-    let order = order_word(record.order);
+    let curve = record.curve.word();
+    let order = record.order.word();
     format!(in heap;
         "auction cap {cap} spread {spread} threshold {threshold} curve {curve} order {order}"
     )
@@ -124,7 +98,7 @@ fn unit_text(heap: Global, record: UnitRecord<&[u8]>) -> Result<String, AllocErr
     let name = name_text(heap, record.name)?;
     let capacity = record.capacity;
     let class = class_text(heap, record.class)?;
-    let side = side_word(record.side);
+    let side = record.side.word();
     let years = record.years;
     let random = record.random;
     format!(in heap; "unit {name} {capacity} {class} {side} years {years} random {random}")

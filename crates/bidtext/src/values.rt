@@ -1,11 +1,10 @@
 ghost use Rattle.std.specs.Prelude.{◌≡◌, min};
-ghost use Rattle.bidtext.specs.Values.{value_of, number_in, keyword, curve_in, order_in, side_in, class_in, nothing_in, numeral};
+ghost use Rattle.bidtext.specs.Values.{value_of, number_in, keyword, class_in, nothing_in, numeral};
 ghost use Rattle.bidtext.specs.Letters.{digit};
 ghost use Rattle.std.specs.List.{list_all};
 ghost use Rattle.std.specs.Str.{bytes_eq};
 
 use crate::expected::Expected;
-use bidfile::{CurveChoice, OrderChoice, SideChoice};
 
 // One more than the largest number of 28 bits.
 const LIMIT: u32 = 268_435_456;
@@ -20,11 +19,12 @@ pub(crate) fn is_word(field: &[u8], word: &[u8]) -> bool
 fn value(digits: &[u8]) -> u32
     ensures { result ≡ min (value_of digits.now) 268435456 }
 {
-    let mut value: u32 = 0;
-    for digit in digits {
-        value = (value * 10 + u32::from(digit.saturating_sub(48))).min(LIMIT);
-    }
-    value
+    digits.iter().fold(0, |value: u32, digit| {
+        value
+            .saturating_mul(10)
+            .saturating_add(u32::from(digit.saturating_sub(b'0')))
+            .min(LIMIT)
+    })
 }
 
 fn are_digits(field: &[u8]) -> bool
@@ -63,45 +63,10 @@ pub(crate) fn read_word(field: &[u8], word: &[u8], expected: Expected) -> Result
     }
 }
 
-pub(crate) fn read_curve(field: &[u8]) -> Result<CurveChoice, Expected>
-    ensures { result ≡ curve_in field.now }
-{
-    if is_word(field, b"straight") {
-        Ok(CurveChoice::Straight)
-    } else if is_word(field, b"stepped") {
-        Ok(CurveChoice::Stepped)
-    } else {
-        Err(Expected::CurveChoice)
-    }
-}
-
-pub(crate) fn read_order(field: &[u8]) -> Result<OrderChoice, Expected>
-    ensures { result ≡ order_in field.now }
-{
-    if is_word(field, b"rule") {
-        Ok(OrderChoice::ByRule)
-    } else if is_word(field, b"name") {
-        Ok(OrderChoice::ByName)
-    } else {
-        Err(Expected::OrderChoice)
-    }
-}
-
-pub(crate) fn read_side(field: &[u8]) -> Result<SideChoice, Expected>
-    ensures { result ≡ side_in field.now }
-{
-    if is_word(field, b"taker") {
-        Ok(SideChoice::Taker)
-    } else if is_word(field, b"maker") {
-        Ok(SideChoice::Maker)
-    } else {
-        Err(Expected::Side)
-    }
-}
-
 pub(crate) fn read_class(field: &[u8]) -> Result<u32, Expected>
     ensures { result ≡ class_in field.now }
 {
+    // Not a `match` on the words: its proof passed the limits of the search.
     if is_word(field, b"existing") {
         Ok(0)
     } else if is_word(field, b"refurbishing") {

@@ -13,5 +13,5 @@ with_words t curve order =
 pub returns : goal.returns
 returns c =
     subst (λ (w : List ℕ). IfOk c.format.result (λ s. string_bytes s ≡ with_words c.args.«record» w (order_word c.args.«record».order)))
-    c.curve_word-curve.ensures
-    (subst (λ (w : List ℕ). IfOk c.format.result (λ s. string_bytes s ≡ with_words c.args.«record» c.curve_word-curve.result.now w)) c.order_word-order.ensures c.format.ensures.ok)
+    c.word-curve.ensures
+    (subst (λ (w : List ℕ). IfOk c.format.result (λ s. string_bytes s ≡ with_words c.args.«record» c.word-curve.result.now w)) c.word-order.ensures c.format.ensures.ok)
