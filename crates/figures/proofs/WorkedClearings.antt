@@ -1,17 +1,17 @@
 -- The worked clearings, worked out and found to meet the relation.
-use Rattle.std.proofs.Common.{◌≡◌, ℕ, ◌*◌, true, cond, List, [], ◌∷◌, ℤ, pos, Some, None, Option, sym, refl, ap, subst, arith, lit≤}
+use Rattle.std.proofs.Common.{◌≡◌, ℕ, true, cond, List, [], ◌∷◌, ℤ, pos, Some, None, Option, sym, refl, ap, subst, arith, lit≤}
 use Rattle.std.proofs.lemmas.Int.{ints}
 use Rattle.curve.proofs.DemandWords.{words}
 use Rattle.curve.specs.OutlineLaws.{curve_laws, curve_area}
 use Rattle.curve.specs.declared.side.Shape.TheVariants.{Lines}
 use Rattle.curve.specs.declared.sign.Sign.TheVariants.{Above}
-use Rattle.curve.specs.Meaning.{Laws, area_between}
+use Rattle.curve.specs.Meaning.{Laws}
 use Rattle.curve.specs.Outline.{sides}
 use Rattle.curve.specs.Rules.{AreaUnder}
 use Rattle.curve.specs.Words.{within, exactly}
 use Rattle.ranking.specs.declared.exits.Exit.{Exit}
 use Rattle.clearing.specs.declared.ground.Ground.{Ground}
-use Rattle.clearing.specs.declared.ground.Ground.TheVariants.{FloorExact, ExitExact, AllFit, NextTaken, NextLeft}
+use Rattle.clearing.specs.declared.ground.Ground.TheVariants.{NextTaken, NextLeft}
 use Rattle.clearing.specs.declared.settlement.Settlement.{Settlement}
 use Rattle.clearing.specs.declared.place.Place.{Place}
 use Rattle.clearing.specs.Finding.{stopped, found_outcome}
@@ -22,9 +22,9 @@ use Rattle.clearing.specs.Premise.{Clearable}
 use Rattle.clearing.proofs.Outcomes.{outcome_holds}
 use Rattle.clearing.proofs.Premises.{clearable_test, clearable_tested}
 use Rattle.clearing.proofs.Signs.{told_weighed}
-use Rattle.figures.specs.Clearings.{worked_curve, combe, dale, edge, ClearsSo, ClearsNot, WorkedClearings}
+use Rattle.figures.specs.Clearings.{worked_curve, combe, dale, ClearsSo, ClearsNot, WorkedClearings}
 use Rattle.figures.specs.Curves.{worked_corners}
-use Rattle.figures.proofs.WorkedCurves.{above}
+use Rattle.figures.proofs.WorkedCurves.{above, level_worth}
 
 laws : Laws worked_curve
 laws = curve_laws Lines worked_corners refl
@@ -34,31 +34,15 @@ outcome_is : (floor s0 : ℕ) (exits : List Exit) (o : Option Settlement) → Cl
 outcome_is floor s0 exits o ok is =
     subst (Outcome worked_curve floor s0 exits) is (outcome_holds worked_curve (words worked_curve laws) floor s0 exits ok)
 
-so : (floor s0 : ℕ) (exits : List Exit) (price : ℕ) (ground : Ground) (stop : ℕ) → clearable_test floor s0 exits ≡ true → found_outcome worked_curve floor s0 exits ≡ Some (record { price = price; ground = ground; stop = stop }) → ClearsSo floor s0 exits price ground stop
-so floor s0 exits price ground stop test is =
-    let ok = clearable_tested floor s0 exits test in
-    record {
-      clearable = ok;
-      outcome = outcome_is floor s0 exits (Some (record { price = price; ground = ground; stop = stop })) ok is;
-    }
+so : {floor s0 : ℕ} {exits : List Exit} {price : ℕ} {ground : Ground} {stop : ℕ} → clearable_test floor s0 exits ≡ true → found_outcome worked_curve floor s0 exits ≡ Some (record { price = price; ground = ground; stop = stop }) → ClearsSo floor s0 exits price ground stop
+so test is =
+    let ok = clearable_tested _ _ _ test in
+    record { clearable = ok; outcome = outcome_is _ _ _ _ ok is }
 
-too_much : ClearsNot 4000 21400 (edge ∷ [])
-unfolding within
-too_much =
-    let ok = clearable_tested 4000 21400 (edge ∷ []) refl in
-    record { clearable = ok; outcome = outcome_is 4000 21400 (edge ∷ []) None ok refl }
-
-at_the_floor : ClearsSo 4000 20000 [] 4000 FloorExact 0
-unfolding within exactly
-at_the_floor = so 4000 20000 [] 4000 FloorExact 0 refl refl
-
-nobody : ClearsSo 4000 0 [] 4000 AllFit 0
-unfolding within exactly
-nobody = so 4000 0 [] 4000 AllFit 0 refl refl
-
-at_an_exit : ClearsSo 1000 20000 (dale ∷ []) 3600 ExitExact 1
-unfolding within exactly
-at_an_exit = so 1000 20000 (dale ∷ []) 3600 ExitExact 1 refl refl
+not_so : {floor s0 : ℕ} {exits : List Exit} → clearable_test floor s0 exits ≡ true → found_outcome worked_curve floor s0 exits ≡ None → ClearsNot floor s0 exits
+not_so test is =
+    let ok = clearable_tested _ _ _ test in
+    record { clearable = ok; outcome = outcome_is _ _ _ _ ok is }
 
 -- ---- the two rounds in which the second exit passes the demand
 
@@ -74,9 +58,7 @@ above_zero = sym (told_weighed worked_curve (at 1400 1) (at 1400 2) Above (pos 3
 
 even : weighed worked_curve (place_at 1000 19000 (combe 1500 ∷ dale ∷ []) 1) (place_at 1000 19000 (combe 1500 ∷ dale ∷ []) 2) ≡ pos 0
 even =
-    let e = under.along.1.1.0.mean 20500 21500 (lit≤ tt) (lit≤ tt) (lit≤ tt) in
-    let worth : area_between worked_curve 20500 21500 ≡ 3600000 * worked_curve.parts = omega arith in
-    omega (arith, ints)
+    let worth = level_worth worked_curve under in omega (arith, ints)
 
 -- the margin, whichever sign is found
 at_sign : ℕ → ℤ → Option Settlement
@@ -91,20 +73,15 @@ pub found_left : found_outcome worked_curve 1000 19000 (combe 1500 ∷ dale ∷ 
 unfolding within exactly at at_sign
 found_left = ap (at_sign 1500) (ap sign_of even)
 
-taken : ClearsSo 1000 19000 (combe 1400 ∷ dale ∷ []) 3600 NextTaken 2
-taken = so 1000 19000 (combe 1400 ∷ dale ∷ []) 3600 NextTaken 2 refl found_taken
-
-left : ClearsSo 1000 19000 (combe 1500 ∷ dale ∷ []) 3600 NextLeft 1
-left = so 1000 19000 (combe 1500 ∷ dale ∷ []) 3600 NextLeft 1 refl found_left
-
 pub worked_clearings : WorkedClearings
+unfolding within exactly
 worked_clearings =
     record {
-      too_much = too_much;
-      at_the_floor = at_the_floor;
-      nobody = nobody;
-      at_an_exit = at_an_exit;
-      taken = taken;
-      left = left;
+      too_much = not_so refl refl;
+      at_the_floor = so refl refl;
+      nobody = so refl refl;
+      at_an_exit = so refl refl;
+      taken = so refl found_taken;
+      left = so refl found_left;
       even = even;
     }

@@ -4,7 +4,9 @@ use Rattle.std.proofs.lemmas.Bool.Decides.{nat_tests}
 use Rattle.curve.specs.OutlineLaws.{curve_farthest}
 use Rattle.curve.specs.declared.side.Shape.TheVariants.{Steps, Lines}
 use Rattle.curve.specs.declared.sign.Sign.TheVariants.{Below, Level, Above}
-use Rattle.curve.specs.Meaning.{area_between}
+use Rattle.curve.specs.Meaning.{Meaning, area_between}
+use Rattle.curve.specs.Outline.{sides}
+use Rattle.curve.specs.Rules.{AreaUnder}
 use Rattle.figures.specs.Curves.{worked_corners, Weighs, WorkedCurves}
 
 pub above : Weighs 20400 21400 Above
@@ -13,11 +15,13 @@ above m some under =
     let worth : area_between m 20400 21400 ≡ 3640000 * m.parts = omega arith in
     grind (arith, nat_tests)
 
-pub level : Weighs 20500 21500 Level
+pub level_worth : (m : Meaning) → AreaUnder m (sides Lines worked_corners) → area_between m 20500 21500 ≡ 3600000 * m.parts
+level_worth m under =
+    let e = under.along.1.1.0.mean 20500 21500 (lit≤ tt) (lit≤ tt) (lit≤ tt) in omega arith
+
+level : Weighs 20500 21500 Level
 level m some under =
-    let e = under.along.1.1.0.mean 20500 21500 (lit≤ tt) (lit≤ tt) (lit≤ tt) in
-    let worth : area_between m 20500 21500 ≡ 3600000 * m.parts = omega arith in
-    grind (arith, nat_tests)
+    let worth = level_worth m under in grind (arith, nat_tests)
 
 below : Weighs 20600 21600 Below
 below m some under =

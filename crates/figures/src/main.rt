@@ -3,6 +3,7 @@
 
 mod auctions;
 mod clearings;
+mod conducted;
 mod curves;
 mod outcome;
 mod rankings;

@@ -29,7 +29,7 @@ impl<'a> Sheet<'a> {
     {
         Sheet {
             rt,
-            tally: Tally::new(),
+            tally: Tally::default(),
         }
     }
 

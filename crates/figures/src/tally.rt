@@ -4,19 +4,13 @@ ghost use Rattle.std.specs.Prelude.{◌≡◌};
 ghost use Rattle.figures.specs.Counts.{counted};
 
 // How many figures were shown, and how many of them agree with what they should be.
-#[derive(Clone, Copy)]
+#[derive(Clone, Copy, Default)]
 pub struct Tally {
     pub shown: u32,
     pub agree: u32,
 }
 
 impl Tally {
-    pub fn new() -> Tally
-        ensures { result ≡ record { shown = 0; agree = 0 } }
-    {
-        Tally { shown: 0, agree: 0 }
-    }
-
     // Counts one more figure.
     pub fn count(&mut self, agrees: bool)
         ensures { self.new ≡ counted self.old agrees }

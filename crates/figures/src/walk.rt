@@ -21,6 +21,7 @@ fn floor_of(cap: u32, spread: u32) -> u32
 fn walk<C: Curve>(rt: &HostRuntime, curve: &C, first_cap: u32, spread: u32) -> io::Result<()> {
     let mut top = first_cap;
     let mut round = 1u32;
+    // no range for a `for`: how many rounds there are shows where the floor comes to 0
     while top > 0 && spread > 0 {
         let floor = floor_of(top, spread);
         let demand = curve.demand(floor);
