@@ -1,9 +1,9 @@
 use bidfile::FileFault;
-use bidtext::Expected;
+use bidtext::{Expected, TextFault};
 use std::fmt;
 
 // Why the program gives up.
-#[derive(Clone, Copy)]
+#[derive(Clone, Copy, PartialEq, Eq, Debug)]
 pub(crate) enum Failure {
     Usage,
     Reading,
@@ -12,6 +12,15 @@ pub(crate) enum Failure {
     LongText,
     Line(usize, Expected),
     File(FileFault),
+}
+
+impl From<TextFault> for Failure {
+    fn from(fault: TextFault) -> Failure {
+        match fault {
+            TextFault::Line(line, expected) => Failure::Line(line, expected),
+            TextFault::Memory => Failure::Memory,
+        }
+    }
 }
 
 impl fmt::Display for Failure {

@@ -5,7 +5,7 @@ mod failure;
 #[cfg(test)]
 mod tests;
 
-use bidtext::{TextFault, text_words, words_text};
+use bidtext::{text_words, words_text};
 use failure::Failure;
 use std::env;
 use std::io::{Read, Write};
@@ -20,18 +20,17 @@ const READ_WORDS: u64 = 65_533;
 
 fn read_input(rt: &HostRuntime, most: u64) -> Result<Vec<u8>, Failure> {
     let mut input = Vec::new(rt.alloc());
-    match rt.stdin().take(most).read_to_end(&mut input) {
-        Ok(_) => Ok(input),
-        Err(_) => Err(Failure::Reading),
-    }
+    rt.stdin()
+        .take(most)
+        .read_to_end(&mut input)
+        .map_err(|_| Failure::Reading)?;
+    Ok(input)
 }
 
 fn write_output(rt: &HostRuntime, bytes: &[u8]) -> Result<(), Failure> {
     let mut out = rt.stdout();
-    if out.write_all(bytes).is_err() || out.flush().is_err() {
-        return Err(Failure::Writing);
-    }
-    Ok(())
+    out.write_all(bytes).map_err(|_| Failure::Writing)?;
+    out.flush().map_err(|_| Failure::Writing)
 }
 
 fn write_words(rt: &HostRuntime) -> Result<(), Failure> {
@@ -39,18 +38,13 @@ fn write_words(rt: &HostRuntime) -> Result<(), Failure> {
     if text.len() > MOST_TEXT {
         return Err(Failure::LongText);
     }
-    match text_words(rt.alloc(), text.as_slice()) {
-        Ok(words) => write_output(rt, words.as_slice()),
-        Err(TextFault::Line(line, expected)) => Err(Failure::Line(line, expected)),
-        Err(TextFault::Memory) => Err(Failure::Memory),
-    }
+    let words = text_words(rt.alloc(), text.as_slice())?;
+    write_output(rt, words.as_slice())
 }
 
 fn write_text(rt: &HostRuntime) -> Result<(), Failure> {
     let file = read_input(rt, READ_WORDS)?;
-    let Ok(listed) = words_text(rt.alloc(), file.as_slice()) else {
-        return Err(Failure::Memory);
-    };
+    let listed = words_text(rt.alloc(), file.as_slice()).map_err(|_| Failure::Memory)?;
     write_output(rt, listed.text.as_bytes())?;
     match listed.fault {
         None => Ok(()),
@@ -59,10 +53,7 @@ fn write_text(rt: &HostRuntime) -> Result<(), Failure> {
 }
 
 fn run(rt: &HostRuntime) -> Result<(), Failure> {
-    let Ok(arguments) = env::args(rt) else {
-        return Err(Failure::Usage);
-    };
-    let mut arguments = arguments.skip(1);
+    let mut arguments = env::args(rt).map_err(|_| Failure::Usage)?.skip(1);
     match arguments.next() {
         None => write_words(rt),
         Some(argument) if argument.as_str() == "--text" && arguments.next().is_none() => write_text(

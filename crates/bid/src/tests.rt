@@ -7,15 +7,12 @@ use std::test::Fail;
 
 // What is told of a line that cannot be read.
 fn check_line(rt: &impl Abort, heap: Global, line: &str, text: &str) -> Result<(), Fail> {
-    match read_line(line.as_bytes()) {
-        Ok(_) => {
-            assert!(rt; text == "read");
-        }
-        Err(expected) => {
-            let told = expected.to_string(heap)?;
-            assert!(rt; told.as_str() == text);
-        }
-    }
+    let Err(expected) = read_line(line.as_bytes()) else {
+        assert!(rt; text == "read");
+        return Ok(());
+    };
+    let told = expected.to_string(heap)?;
+    assert!(rt; told.as_str() == text);
     Ok(())
 }
 
