@@ -61,6 +61,7 @@ fn show_clearing<C: Curve>(
     requires { Clearable floor capacity_in exits.now }
     ensures { OnOk result (CountedFor (outcome_of (C.meaning curve.now) floor capacity_in exits.now ≡ due) sheet.old.tally sheet.new.tally) }
 {
+    // made here, so that each call says its three values in one line
     let round = Round {
         floor,
         capacity_in,
