@@ -22,8 +22,7 @@ fn read_file(rt: &HostRuntime) -> Result<Vec<u8>, Failure> {
 
 fn print_listing(rt: &HostRuntime, file: &[u8], storage: Storage) -> Result<(), Failure> {
     let mut out = BufWriter::new(rt.alloc(), rt.stdout()).map_err(|_| Failure::Memory)?;
-    let mut run = rehearse(file, storage);
-    while let Some(line) = run.next_line() {
+    for line in rehearse(file, storage) {
         writeln!(out, "{line}").map_err(|_| Failure::Writing)?;
     }
     out.flush().map_err(|_| Failure::Writing)

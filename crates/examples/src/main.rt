@@ -8,8 +8,7 @@ use std::{env, fs};
 // The listing of a bid file, made by the run that `clear` makes.
 fn listing(heap: Global, file: &[u8]) -> anyhow::Result<String> {
     let mut text = String::new(heap);
-    let mut run = rehearse(file, Storage::new(heap)?);
-    while let Some(line) = run.next_line() {
+    for line in rehearse(file, Storage::new(heap)?) {
         let shown = format!(in heap; "{line}\n")?;
         text.push_str(shown.as_str())?;
     }

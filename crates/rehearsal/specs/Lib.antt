@@ -6,7 +6,6 @@ pub mod Chosen
 pub mod Saying
 pub mod Sessions
 pub mod Hearing
-pub mod Waits
 pub mod Takes
 pub mod Soundness
 pub mod Left

@@ -96,10 +96,7 @@ impl Progress {
     pub(crate) fn is_over(&self) -> bool
         ensures { result ≡ is_over (progress_of self.now) }
     {
-        match self {
-            Progress::Fresh(_) | Progress::Gathering(_) | Progress::Going(_) => false,
-            Progress::Over => true,
-        }
+        matches!(self, Progress::Over)
     }
 
     // Takes a record that is in turn. The line is the first of what is printed.

@@ -1,12 +1,12 @@
 // The lines that wait to be given out, in their order.
 
 ghost use Rattle.std.specs.Prelude.{◌≡◌, [], ◌∷◌, ◌++◌};
+ghost use Rattle.std.specs.Iterator.{YieldsFirst};
 ghost use Rattle.std.specs.Option.{option_to_list};
 ghost use Rattle.listing.specs.Faults.{fault_line};
 ghost use Rattle.rehearsal.specs.Saying.{settled_lines};
 ghost use Rattle.rehearsal.specs.Sessions.{session_state};
 ghost use Rattle.rehearsal.specs.Takes.{progress_lines};
-ghost use Rattle.rehearsal.specs.Waits.{Handed};
 
 use crate::progress::Progress;
 use crate::stages::Session;
@@ -83,7 +83,7 @@ impl Waiting {
 
     // The line that comes next, if one is left.
     pub(crate) fn next(&mut self) -> Option<Line>
-        ensures { Handed self.old result self.new }
+        ensures { YieldsFirst (λ lines. lines) self.old result self.new }
     {
         if let Some(line) = self.first.take() {
             return Some(line);

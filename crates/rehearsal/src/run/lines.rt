@@ -1,12 +1,12 @@
 // A run, asked for its next line.
 
 ghost use Rattle.std.specs.Prelude.{◌≡◌, ◌<◌};
+ghost use Rattle.std.specs.Iterator.{YieldsFirst, item_count};
 ghost use Rattle.bidfile.specs.Found.{found};
 ghost use Rattle.bidfile.specs.Words.{words};
 ghost use Rattle.rehearsal.specs.Left.{lines_left, lines_ahead, advanced_as, Running, Further, Silent, steps_left};
 ghost use Rattle.rehearsal.specs.Listing.{listing};
 ghost use Rattle.rehearsal.specs.Market.{Market};
-ghost use Rattle.rehearsal.specs.Waits.{Handed};
 
 use crate::progress::Progress;
 use crate::run::Run;
@@ -58,7 +58,7 @@ impl<'a> Run<'a> {
 
     // The next line of the listing, or none where all were given out.
     pub fn next_line(&mut self) -> Option<Line>
-        ensures { Handed (lines_left self.old) result (lines_left self.new) }
+        ensures { YieldsFirst lines_left self.old result self.new }
     {
         loop {
             if let Some(line) = self.waiting.next() {
@@ -69,6 +69,18 @@ impl<'a> Run<'a> {
             }
             self.step();
         }
+    }
+}
+
+impl<'a> Iterator for Run<'a> {
+    type Item = Line;
+
+    ghost next_gives = { YieldsFirst lines_left };
+
+    ghost remaining = { item_count lines_left };
+
+    fn next(&mut self) -> Option<Line> {
+        self.next_line()
     }
 }
 
