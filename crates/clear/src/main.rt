@@ -35,6 +35,7 @@ fn run(rt: &HostRuntime) -> Result<(), Failure> {
 }
 
 fn main(rt: HostRuntime) -> ExitCode {
+    // Not `?` out of main: that would print `Error: ` before the failure's own text.
     match run(&rt) {
         Ok(()) => ExitCode::SUCCESS,
         Err(failure) => {

@@ -24,6 +24,7 @@ fn is_as_listed(rt: &HostRuntime, name: &str) -> anyhow::Result<bool> {
 }
 
 fn run(rt: &HostRuntime) -> anyhow::Result<()> {
+    // Counted in the loop that prints: a chain would need a list of answers beside it.
     let mut shown = 0u32;
     let mut agree = 0u32;
     for name in env::args(rt)?.skip(1) {

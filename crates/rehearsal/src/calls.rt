@@ -98,6 +98,7 @@ impl Held<Enrolling> {
 }
 
 impl Held<Open> {
+    // The place comes beside what was matched out of the record: a whole `Placed` would be matched a second time.
     fn exit(&mut self, place: usize, said: ExitRecord) -> Option<Line>
         ensures { (auction_state self.new.auction, result) ≡ reply place (auction_state self.old.auction) (exited (auction_state self.old.auction) self.old.clock.stamp said.unit said.price) }
     {
