@@ -3,12 +3,11 @@ use Rattle.std.proofs.Common.{◌≡◌, ℕ, zero, suc, ◌+◌, ◌/◌, ◌%�
 use Rattle.bidtext.specs.Letters.{mark}
 use lib.Utf8.{encode}
 use Rattle.bidtext.specs.Texts.{hex_digit, hex_pair, marks}
-use Rattle.bidtext.proofs.Pieces.{lead}
 use Rattle.std.proofs.lemmas.Str.Ascii.{encode_ascii}
 use Rattle.std.proofs.lemmas.List.{at_drop_more, at_drop_all}
 use Rattle.std.proofs.lemmas.Bool.{cond_both, and_parts, and_from, true≢false, false≢true}
 use Rattle.std.proofs.lemmas.Bool.Decides.{nat_tests}
-use Rattle.std.specs.List.{flat_map, list_all}
+use Rattle.std.specs.List.{prefix_len, flat_map, list_all}
 
 -- a name that is not hexadecimal and has a mark is plain where the rest is padding
 pub plain_rest : (h m e : Bool) → h ≡ false → m ≡ true → (not h && (m && e)) ≡ e
@@ -17,11 +16,11 @@ plain_rest false true e p q = refl
 plain_rest false false e p q = absurd (false≢true q)
 
 -- the bytes of a kind that come first are of that kind
-pub every_first : (kind : ℕ → Bool) (bs : List ℕ) → list_all kind (take (lead kind bs) bs) ≡ true
+pub every_first : (kind : ℕ → Bool) (bs : List ℕ) → list_all kind (take (prefix_len kind bs) bs) ≡ true
 every_first kind [] = refl
 every_first kind (b ∷ bs) =
-    cond_both (kind b) (1 + lead kind bs) 0 (λ (n : ℕ). list_all kind (take n (b ∷ bs)) ≡ true)
-    (λ e. ap (λ (n : ℕ). list_all kind (take n (b ∷ bs))) (one-add (lead kind bs)) ∙ and_from (kind b) (list_all kind (take (lead kind bs) bs)) e (every_first kind bs))
+    cond_both (kind b) (1 + prefix_len kind bs) 0 (λ (n : ℕ). list_all kind (take n (b ∷ bs)) ≡ true)
+    (λ e. ap (λ (n : ℕ). list_all kind (take n (b ∷ bs))) (one-add (prefix_len kind bs)) ∙ and_from (kind b) (list_all kind (take (prefix_len kind bs) bs)) e (every_first kind bs))
     (λ e. refl)
 
 pub marks_small : (bs : List ℕ) → list_all mark bs ≡ true → IsAscii bs

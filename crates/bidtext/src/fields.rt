@@ -1,49 +1,31 @@
 ghost use Rattle.std.specs.Prelude.{◌≡◌, ◌≤◌, length};
-ghost use Rattle.bidtext.specs.Fields.{fields, field_at, after};
-ghost use Rattle.bidtext.specs.Letters.{blank, inner};
+ghost use Rattle.bidtext.specs.Fields.{fields, field_at, said, uncommented};
 ghost use Rattle.std.specs.List.{prefix_len};
 
-use crate::letters::{is_blank, is_inner};
+use crate::letters::is_blank;
 
-// How many blanks come first.
-fn blanks(line: &[u8]) -> usize
-    ensures count { result ≡ prefix_len blank line.now }
+// How many bytes come before the comment.
+fn comment_place(line: &[u8]) -> usize
+    ensures count { result ≡ prefix_len said line.now }
     ensures within { result ≤ length line.now }
 {
-    line.iter().take_while(|byte| is_blank(**byte)).count()
+    line.iter().take_while(|byte| **byte != b'#').count()
 }
 
-// How many bytes of a field come first.
-fn inners(line: &[u8]) -> usize
-    ensures count { result ≡ prefix_len inner line.now }
-    ensures within { result ≤ length line.now }
+// A line up to its comment.
+fn uncommented(line: &[u8]) -> &[u8]
+    ensures { result.now ≡ uncommented line.now }
 {
-    line.iter().take_while(|byte| is_inner(**byte)).count()
-}
-
-// The first field of a line, empty if there is none.
-fn first_field(line: &[u8]) -> &[u8]
-    ensures { result.now ≡ field_at (fields line.now) 0 }
-{
-    let rest = &line[blanks(line)..];
-    &rest[..inners(rest)]
-}
-
-// What follows the first field.
-fn rest_of(line: &[u8]) -> &[u8]
-    ensures { fields result.now ≡ after (fields line.now) }
-{
-    let rest = &line[blanks(line)..];
-    &rest[inners(rest)..]
+    &line[..comment_place(line)]
 }
 
 // The field at a place, counted from 0, empty if there is none.
 pub(crate) fn field(line: &[u8], place: usize) -> &[u8]
     ensures { result.now ≡ field_at (fields line.now) place }
 {
-    let mut rest = line;
-    for _passed in 0..place {
-        rest = rest_of(rest);
-    }
-    first_field(rest)
+    uncommented(line)
+        .split(|byte| is_blank(*byte))
+        .filter(|piece| !piece.is_empty())
+        .nth(place)
+        .unwrap_or(b"")
 }

@@ -1,18 +1,11 @@
 ghost use Rattle.std.specs.Prelude.{◌≡◌};
-ghost use Rattle.bidtext.specs.Letters.{blank, inner, mark};
+ghost use Rattle.bidtext.specs.Letters.{blank, mark};
 
 // Whether a byte is a space, a tab or a carriage return.
 pub(crate) fn is_blank(byte: u8) -> bool
     ensures { result ≡ blank byte }
 {
     matches!(byte, b' ' | b'\t' | b'\r')
-}
-
-// Whether a byte is one of those that fields are made of.
-pub(crate) fn is_inner(byte: u8) -> bool
-    ensures { result ≡ inner byte }
-{
-    !is_blank(byte) && byte != b'#'
 }
 
 // Whether a byte is a mark of a name.

@@ -48,6 +48,7 @@ fn is_plain(name: &[u8]) -> bool
     marks >= 1 && are_spaces(&name[marks..])
 }
 
+// Not by `{:02X}`, which would make and copy a text for each byte.
 fn hex_digit(value: u8) -> u8
     requires { value < 16 }
     ensures { result ≡ hex_digit value }
