@@ -23,6 +23,7 @@ impl From<TextFault> for Failure {
     }
 }
 
+// By hand: a fault of the file is printed as `clear` prints it, which is not a text of its own.
 impl fmt::Display for Failure {
     fn fmt<W: fmt::Write>(&self, f: &mut fmt::Formatter<W>) -> fmt::Result {
         match *self {

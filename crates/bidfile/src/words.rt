@@ -2,6 +2,8 @@ ghost use Rattle.std.specs.Prelude.{◌≡◌, ◌+◌, ◌-◌, ◌<◌, ◌≤
 ghost use Rattle.bidfile.specs.Found.{operands, plain_words};
 ghost use Rattle.bidfile.specs.Words.{words, word_at, kind_at, value_at};
 
+// These take the file and a place: no record is known to stand there yet, so a struct would keep no fact that two share.
+
 // How many words a file has.
 pub(crate) fn count(file: &[u8]) -> usize
     ensures { result ≡ words file.now }

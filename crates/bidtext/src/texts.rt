@@ -11,6 +11,7 @@ use bidfile::{Record, TermsRecord, UnitRecord};
 use std::alloc::{AllocError, Global};
 use std::str::from_utf8;
 
+// Not one table with `read_class`: a class without a word is read and written as its number.
 fn class_text(heap: Global, class: u32) -> Result<String, AllocError>
     ensures { IfOk result (λ s. string_bytes s ≡ class_word class) }
 {
