@@ -10,6 +10,8 @@ use Rattle.book.specs.Books.{Books, no_books, no_unit, new_unit, unit_at, out_at
 use Rattle.book.specs.declared.class.Class.{Class}
 use Rattle.book.specs.declared.class.Class.TheVariants.{Existing}
 use Rattle.book.specs.declared.entry.Entry.{Entry}
+use Rattle.book.specs.declared.entry.EntryKind.{EntryKind}
+use Rattle.book.specs.declared.entry.EntryKind.TheVariants.{Exit, Years}
 use Rattle.book.specs.declared.terms.Application.{Application}
 use Rattle.book.specs.declared.terms.Terms.{Terms}
 use Rattle.book.specs.declared.unit.Standing.{Standing}
@@ -72,18 +74,18 @@ above_with_unit floor b after a is h =
     let parts = above_parts floor b h in
     rw is (above_from floor _ (exits_more floor b.units (new_unit a) parts.0 (new_above floor a)) parts.1)
 
-above_with_entry : (floor : ℕ) (b : Books) (i : ℕ) (s : Standing) → price_above floor s ≡ true → book_above floor b ≡ true → book_above floor (with_entry b i s) ≡ true
-above_with_entry floor b i s k h =
+above_with_entry : (floor : ℕ) (b : Books) (i : ℕ) (s : Standing) (kind : EntryKind) → price_above floor s ≡ true → book_above floor b ≡ true → book_above floor (with_entry b i s kind) ≡ true
+above_with_entry floor b i s kind k h =
     let parts = above_parts floor b h in
     above_from floor _ (exits_set floor b.units i s parts.0 k) (formers_more floor _ b.entries (exits_at floor b.units i parts.0) parts.1)
 
 pub above_with_exit : (floor : ℕ) (b after : Books) (i price : ℕ) → after ≡ with_exit b i price → floor < price → book_above floor b ≡ true → book_above floor after ≡ true
 above_with_exit floor b after i price is lt h =
-    rw is (above_with_entry floor b i (out_at (unit_at b i).standing price) (lt-ltb floor price lt) h)
+    rw is (above_with_entry floor b i (out_at (unit_at b i).standing price) Exit (lt-ltb floor price lt) h)
 
 pub above_with_years : (floor : ℕ) (b after : Books) (i years : ℕ) → after ≡ with_years b i years → book_above floor b ≡ true → book_above floor after ≡ true
 above_with_years floor b after i years is h =
-    rw is (above_with_entry floor b i (for_years (unit_at b i).standing years) (exits_at floor b.units i (above_parts floor b h).0) h)
+    rw is (above_with_entry floor b i (for_years (unit_at b i).standing years) Years (exits_at floor b.units i (above_parts floor b h).0) h)
 
 above_undone : (floor : ℕ) (us : List Row) (es : List Entry) → exits_above floor us ≡ true → formers_above floor es ≡ true → book_above floor (undone us es) ≡ true
 above_undone floor us [] h k = above_from floor _ h k

@@ -6,6 +6,7 @@ use Rattle.std.proofs.lemmas.Bool.Decides.{nat_tests}
 use Rattle.book.specs.declared.class.Class.{Class}
 use Rattle.book.specs.declared.class.Class.TheVariants.{Existing}
 use Rattle.book.specs.declared.entry.Entry.{Entry}
+use Rattle.book.specs.declared.entry.EntryKind.{EntryKind}
 use Rattle.book.specs.declared.terms.Application.{Application}
 use Rattle.book.specs.declared.terms.Terms.{Terms}
 use Rattle.book.specs.declared.unit.Enrolment.{Enrolment}
@@ -340,12 +341,12 @@ stands_at : (b : Books) (i : ℕ) → Keeps b → i < length b.units → lawful_
 stands_at b i k lt = stands_lawful _ _ (unit_stands (unit_at b i) (lawful_at b.units i k.units lt))
 
 -- the unit i stands otherwise, and that is an entry
-pub lawful_with_entry : (b : Books) (i : ℕ) (s : Standing) → lawful b ≡ true → stood_lawfully b.units i s ≡ true → length b.entries < 1024 → lawful (with_entry b i s) ≡ true
+pub lawful_with_entry : (b : Books) (i : ℕ) (s : Standing) (kind : EntryKind) → lawful b ≡ true → stood_lawfully b.units i s ≡ true → length b.entries < 1024 → lawful (with_entry b i s kind) ≡ true
 unfolding lawful_entry
-lawful_with_entry b i s h allowed room =
+lawful_with_entry b i s kind h allowed room =
     let k = lawful_keeps b h in
     let p = and_parts _ _ allowed in
-    let former : Entry = record { unit = i; former = (unit_at b i).standing } in
+    let former : Entry = record { kind = kind; unit = i; former = (unit_at b i).standing } in
     let one : lawful_entry b.units former ≡ true = and_from _ _ p.0 (stands_at b i k (ltb-true _ _ p.0)) in
     keeps_lawful _ (keeps_entry _ former (keeps_stood b i s k p.1) (entry_stood b.units i s former one) room)
 

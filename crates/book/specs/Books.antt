@@ -5,6 +5,8 @@ use Rattle.book.specs.declared.class.Class.TheVariants.{Existing, Refurbishing, 
 use Rattle.book.specs.declared.class.Side.{Side}
 use Rattle.book.specs.declared.class.Side.TheVariants.{Taker, Maker}
 use Rattle.book.specs.declared.entry.Entry.{Entry}
+use Rattle.book.specs.declared.entry.EntryKind.{EntryKind}
+use Rattle.book.specs.declared.entry.EntryKind.TheVariants.{Exit, Years}
 use Rattle.book.specs.declared.terms.Application.{Application}
 use Rattle.book.specs.declared.unit.Standing.{Standing}
 use Rattle.book.specs.declared.unit.Unit.{Unit as Row}
@@ -75,19 +77,19 @@ for_years s years = record { years = years; inside = s.inside; exit = s.exit }
 abbrev pub with_unit : Books → Row → Books
 with_unit b u = record { units = b.units ++ (u ∷ []); entries = b.entries }
 
--- the unit i stands so now, and the latest entry holds how it stood before
-abbrev pub with_entry : Books → ℕ → Standing → Books
-with_entry b i s =
+-- the unit i stands so now, and the latest entry, of this kind, holds how it stood before
+abbrev pub with_entry : Books → ℕ → Standing → EntryKind → Books
+with_entry b i s kind =
     record {
       units = slice_set b.units i (stood (unit_at b i) s);
-      entries = record { unit = i; former = (unit_at b i).standing } ∷ b.entries;
+      entries = record { kind = kind; unit = i; former = (unit_at b i).standing } ∷ b.entries;
     }
 
 abbrev pub with_exit : Books → ℕ → ℕ → Books
-with_exit b i price = with_entry b i (out_at (unit_at b i).standing price)
+with_exit b i price = with_entry b i (out_at (unit_at b i).standing price) Exit
 
 abbrev pub with_years : Books → ℕ → ℕ → Books
-with_years b i years = with_entry b i (for_years (unit_at b i).standing years)
+with_years b i years = with_entry b i (for_years (unit_at b i).standing years) Years
 
 -- the latest entry undone: its unit stands again as it did, and the entries are those before
 abbrev pub undone : List Row → List Entry → Books

@@ -13,7 +13,7 @@ mod unit;
 
 pub use book::Book;
 pub use class::{Class, Side, UnknownNumber};
-pub use entry::Entry;
+pub use entry::{Entry, EntryKind};
 pub use refusal::BookRefusal;
 pub use room::{MOST_ENTRIES, MOST_UNITS, Room};
 pub use terms::{Application, Terms};

@@ -12,6 +12,7 @@ use Rattle.bidfile.specs.Layout.{in_places}
 use Rattle.book.specs.declared.class.Class.TheVariants.{Existing, Refurbishing, NewBuild, DemandSide}
 use Rattle.book.specs.declared.class.Side.TheVariants.{Taker, Maker}
 use Rattle.book.specs.declared.entry.Entry.{Entry}
+use Rattle.book.specs.declared.entry.EntryKind.TheVariants.{Exit, Years}
 use Rattle.book.specs.declared.unit.Enrolment.{Enrolment}
 use Rattle.book.specs.declared.unit.Unit.{Unit as Row}
 use Rattle.clearing.specs.declared.ground.Ground.TheVariants.{NextTaken, NextLeft}
@@ -111,9 +112,9 @@ worked_units = inside holt 1 ∷ inside beck 1 ∷ outside combe 10 3600 ∷ out
 
 abbrev worked_entries : List Entry
 worked_entries =
-    record { unit = 2; former = record { years = 10; inside = true; exit = None } }
-    ∷ record { unit = 3; former = record { years = 1; inside = true; exit = None } }
-    ∷ record { unit = 2; former = record { years = 15; inside = true; exit = None } }
+    record { kind = Exit; unit = 2; former = record { years = 10; inside = true; exit = None } }
+    ∷ record { kind = Exit; unit = 3; former = record { years = 1; inside = true; exit = None } }
+    ∷ record { kind = Years; unit = 2; former = record { years = 15; inside = true; exit = None } }
     ∷ []
 
 -- when it has settled, over a curve and a tie order

@@ -6,7 +6,7 @@ ghost use Rattle.book.specs.Views.{books};
 ghost use Rattle.curve.specs.Questions.{first_no};
 
 use crate::book::Book;
-use crate::entry::Entry;
+use crate::entry::{Entry, EntryKind};
 use crate::room::Room;
 use crate::table::Table;
 use crate::terms::Application;
@@ -50,7 +50,7 @@ impl Book {
         ensures { books self.new ≡ with_exit (books self.old) unit price }
     {
         let standing = self.unit(unit).standing.out_at(price);
-        self.enter(unit, standing);
+        self.enter(unit, standing, EntryKind::Exit);
     }
 
     // The unit serves fewer years.
@@ -59,14 +59,14 @@ impl Book {
         ensures { books self.new ≡ with_years (books self.old) unit years }
     {
         let standing = self.unit(unit).standing.for_years(years);
-        self.enter(unit, standing);
+        self.enter(unit, standing, EntryKind::Years);
     }
 
-    // An entry: the unit stands so now. The table is taken out and put back whole (docs/DECISIONS.md, Book).
-    fn enter(&mut self, unit: usize, standing: Standing)
+    // An entry of a kind: the unit stands so now. The table is taken out and put back whole (docs/DECISIONS.md, Book).
+    fn enter(&mut self, unit: usize, standing: Standing, kind: EntryKind)
         requires lawful { stood_lawfully (books self.old).units unit standing ≡ true }
         requires room { length (books self.old).entries < 1024 }
-        ensures { books self.new ≡ with_entry (books self.old) unit standing }
+        ensures { books self.new ≡ with_entry (books self.old) unit standing kind }
     {
         let empty = Table {
             rows: Vec::new(self.heap),
@@ -76,7 +76,7 @@ impl Book {
         table.rows[unit] = Unit { standing, ..row };
         self.table = table;
         let former = row.standing;
-        self.entries.push_reserved(Entry { unit, former });
+        self.entries.push_reserved(Entry { kind, unit, former });
     }
 
     // Undoes the latest entry that stands, if there is one.
