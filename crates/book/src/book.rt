@@ -10,6 +10,7 @@ mod changes;
 mod questions;
 
 // The units and this round's entries, under the rule of the book; `total` is the sum of the capacities enrolled.
+// Contracts read it as `books`: as a model's Value it would be no plainer, since users cite that every book keeps the rule.
 #[derive(Drop)]
 pub struct Book {
     table: Table,

@@ -28,7 +28,8 @@ impl Application {
     pub(crate) fn has_known_years(&self) -> bool
         ensures { result ≡ years_known self.now }
     {
-        Class::try_from(self.class).is_ok_and(|class| self.years >= 1
-            && self.years <= class.most_years())
+        Class::try_from(self.class).is_ok_and(|class| {
+            (1..=class.most_years()).contains(&self.years)
+        })
     }
 }

@@ -7,7 +7,7 @@ use crate::class::{Class, Side};
 use crate::terms::Application;
 use ranking::{Exit, Name};
 
-// What a unit was enrolled with.
+// What a unit was enrolled with. Application is alike but for the class; one generic type for both would make contracts longer.
 #[derive(Clone, Copy, PartialEq, Eq, Debug)]
 pub struct Enrolment {
     pub capacity: u32,
@@ -18,7 +18,8 @@ pub struct Enrolment {
     pub name: Name,
 }
 
-// What an entry may change of a unit: its years now, whether it is in, and the price at which it left.
+// What an entry may change of a unit: its years now, whether it is in, and the price at which it left. That `inside` stands beside
+// `exit`, and that an exit price is read by `let .. else`, are forms of docs/DECISIONS.md, Book.
 #[derive(Clone, Copy, PartialEq, Eq, Debug)]
 pub struct Standing {
     pub years: u32,
@@ -88,7 +89,7 @@ impl Unit {
         self.standing = former;
     }
 
-    // The capacity of a unit that is in, else 0. Each exit price is read by `let .. else`, a form that the project keeps.
+    // The capacity of a unit that is in, else 0.
     pub fn in_kw(&self) -> u32
         ensures { result ≡ in_kw self.now }
     {

@@ -83,10 +83,9 @@ impl Book {
     pub fn step_back(&mut self)
         ensures { books self.new ≡ stepped_back (books self.old) }
     {
-        let Some(last) = self.entries.pop() else {
-            return;
-        };
-        self.table.row_mut(last.unit).stand_again(last.former);
+        if let Some(last) = self.entries.pop() {
+            self.table.row_mut(last.unit).stand_again(last.former);
+        }
     }
 
     // The entries go on standing, out of step back's reach.

@@ -40,6 +40,7 @@ impl Book {
         self.table.rows.as_slice()
     }
 
+    // One unit by its number. This and the two below are public, and so stay, though `units` lends all that they read.
     pub fn unit(&self, i: usize) -> Unit
         requires { i < length (books self.now).units }
         ensures { result ≡ unit_at (books self.now) i }
@@ -81,7 +82,7 @@ impl Book {
         if self.count() >= MOST_UNITS {
             return Err(BookRefusal::Full);
         }
-        if application.capacity < LEAST_KW || application.capacity > MOST_KW {
+        if !(LEAST_KW..=MOST_KW).contains(&application.capacity) {
             return Err(BookRefusal::Capacity);
         }
         if self.total + application.capacity > CEILING {
@@ -101,10 +102,7 @@ impl Book {
         ensures asked { refused book_question result ≡ first_no (asked 15 (nat_lt unit (length (books self.now).units)) ∷ asked 16 (unit_at (books self.now) unit).standing.inside ∷ []) }
         ensures row { IfOk result (λ row. row ≡ unit_at (books self.now) unit) }
     {
-        if unit >= self.count() {
-            return Err(BookRefusal::NoUnit);
-        }
-        let row = self.unit(unit);
+        let row = self.units().get(unit).copied().ok_or(BookRefusal::NoUnit)?;
         if !row.standing.inside {
             return Err(BookRefusal::Out);
         }
@@ -126,6 +124,7 @@ impl Book {
         ensures { refused book_question result ≡ first_no (exit_questions terms (books self.now) unit price) }
     {
         let row = self.unit_in(unit)?;
+        // The price lies above the floor: no range leaves its first number out.
         if price <= terms.floor || price > terms.cap {
             return Err(BookRefusal::Price);
         }
@@ -139,7 +138,7 @@ impl Book {
         ensures { refused book_question result ≡ first_no (years_questions (books self.now) unit years) }
     {
         let row = self.unit_in(unit)?;
-        if years < 1 || years >= row.standing.years {
+        if !(1..row.standing.years).contains(&years) {
             return Err(BookRefusal::Years);
         }
         self.entry_room()

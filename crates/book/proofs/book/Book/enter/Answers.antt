@@ -7,6 +7,7 @@ use Rattle.book.proofs.ModelLaws.{total_stays}
 use Rattle.book.proofs.Rules.{lawful_with_entry}
 use Rattle.book.proofs.book.Book.enter.Goals as goal
 
+-- one answer for all four, since field by field the search does not find `summed`
 pub invariant_of-self : goal.invariant_of-self
 invariant_of-self c =
     let b = books c.args.self.now in

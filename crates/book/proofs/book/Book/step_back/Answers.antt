@@ -10,8 +10,9 @@ use Rattle.book.proofs.book.Book.step_back.Goals as goal
 pub row_mut-requires : goal.row_mut-requires
 row_mut-requires c = let lt = latest_unit _ _ _ _ c.args.self.now.kept c.in-Some.ensures.items in search rules
 
-pub invariant_of-self-2 : goal.invariant_of-self-2
-invariant_of-self-2 c =
+-- one answer for all four, since field by field the search does not find `summed`
+pub invariant_of-self : goal.invariant_of-self
+invariant_of-self c =
     let b = books c.args.self.now in
     let written : record { units = set c.args.self.now.table.rows.items c.in-Some.last.unit c.stand_again.new.self; entries = reverse c.pop.new.self.items } ≡ stepped_back b
     = grind (arith, common_steps) in record {
