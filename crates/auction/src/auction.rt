@@ -15,7 +15,8 @@ mod rounds;
 mod standing;
 mod turns;
 
-// One auction: its numbers, its book, and the curve and the order that it was opened with. `top` is the cap of the present round.
+// One auction: its numbers, its book, and the curve and the order that it was opened with. `top` is the cap of the present round, which
+// changes, so that `top`, `spread` and `threshold` are no `Prices`.
 // Contracts read it as `state C.Curve.meaning O.Order.ahead`: a model's Value may hold no function, nor name a bound's members.
 #[derive(Drop)]
 pub struct Auction<C, O> {

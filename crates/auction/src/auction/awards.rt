@@ -24,7 +24,7 @@ fn is_among(unit: usize, exits: &[Exit]) -> bool
 }
 
 // Whether a unit is awarded, given the exits that are: it is still in, or its exit is one of them. Its exit price is read by
-// `let .. else`, a form that the project keeps.
+// `let .. else`, a form of docs/DECISIONS.md, Book.
 pub(super) fn is_awarded(row: &Unit, unit: usize, awarded: &[Exit]) -> bool
     requires { out_if_priced row.now.standing ≡ true }
     ensures { result ≡ (row.now.standing.inside || among unit awarded.now) }
@@ -36,7 +36,7 @@ pub(super) fn is_awarded(row: &Unit, unit: usize, awarded: &[Exit]) -> bool
 }
 
 impl<C: Curve, O: Order<Item = Exit>> Auction<C, O> {
-    // The exits of the round, in their ranking.
+    // The exits of the round, in their ranking. A loop, since `collect` into an ArrayVec would answer an error that cannot come.
     fn exits(&self) -> ArrayVec<Exit, MOST_UNITS>
         ensures { result.items ≡ ranked_exits (state C.Curve.meaning O.Order.ahead self.now) }
     {
@@ -50,7 +50,7 @@ impl<C: Curve, O: Order<Item = Exit>> Auction<C, O> {
         exits
     }
 
-    // How the round settles if it is closed as things stand; if it does not clear, which no settled auction has, at the floor.
+    // How the round settles if it is closed as things stand; at the floor if it does not clear, which is so of no settled auction.
     pub(super) fn settled(&self) -> Settlement
         ensures { result ≡ settlement_of (state C.Curve.meaning O.Order.ahead self.now) }
     {

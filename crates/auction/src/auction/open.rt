@@ -16,10 +16,10 @@ pub fn check_open<C: Curve>(prices: Prices, curve: &C) -> Result<(), Refusal>
     ensures { refused auction_question result ≡ first_no (open_questions (C.Curve.meaning curve.now) prices.«cap» prices.spread prices.threshold) }
 {
     let cap = prices.cap;
-    if cap < 1 || cap > MOST_PENCE || curve.demand(cap) == 0 {
+    if !(1..=MOST_PENCE).contains(&cap) || curve.demand(cap) == 0 {
         return Err(Refusal::CapOrDemand);
     }
-    if prices.spread < 1 || prices.spread > cap {
+    if !(1..=cap).contains(&prices.spread) {
         return Err(Refusal::Spread);
     }
     if prices.threshold > cap {
@@ -50,7 +50,7 @@ impl<C: Curve, O: Order<Item = Exit>> Auction<C, O> {
     }
 
     // Opens an auction, with its enrolment clock; refused, it gives curve, order and room back. A `match`, since a closure for
-    // `map_err` would take what the other way opens the auction over.
+    // `map_err` would move the setting, which the `Ok` way needs.
     pub fn open(
         number: u16,
         prices: Prices,

@@ -14,7 +14,8 @@ use curve::Curve;
 use ranking::{Exit, Order, RollOrder, RollRow};
 
 impl<C: Curve, O: Order<Item = Exit>> Auction<C, O> {
-    // The rows of the awarded units, in the order of the roll.
+    // The rows of the awarded units, in the order of the roll. A loop, since `collect` into an ArrayVec would answer an error that
+    // cannot come.
     fn roll_rows(&self) -> ArrayVec<RollRow, MOST_UNITS>
         ensures { result.items ≡ roll_of (state C.Curve.meaning O.Order.ahead self.now) (settlement_of (state C.Curve.meaning O.Order.ahead self.now)) }
     {
@@ -36,7 +37,7 @@ impl<C: Curve, O: Order<Item = Exit>> Auction<C, O> {
     }
 
     // Writes the rows of the awarded units over the front of the lent ones, in the order of the roll, and answers how many
-    // there are.
+    // there are: the rules lend Roll a slice, and ask for the count (docs/rules.md, Roll).
     pub fn roll(&self, clock: &SettledClock, rows: &mut [RollRow]) -> Result<usize, Refusal>
         ensures { (numbered result, rows.new) ≡ roll_read (state C.Curve.meaning O.Order.ahead self.now) clock.now.stamp rows.old }
     {

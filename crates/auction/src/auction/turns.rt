@@ -11,7 +11,8 @@ use crate::refusal::Refusal;
 use curve::Curve;
 use ranking::{Exit, Order};
 
-// The answer of a call: what `done` makes of its result, or the number of the question that refused it.
+// The answer of a call: what `done` makes of its result, or the number of the question that refused it. A `match`, since
+// `map_or_else` is no plainer.
 fn told<T, F: FnOnce(T) -> Answer>(res: Result<T, Refusal>, done: F) -> Answer
     requires { F.IsAlwaysCallable done }
     ensures { elim res [ Ok made ↦ F.post done made result | Err why ↦ result ≡ Refused (auction_question why) ] }
