@@ -74,9 +74,11 @@ mod tests {
     // An auction in round 1 with a maker of 15 years, unit 0, and a taker, unit 1.
     fn begun(rt: &impl Abort, heap: Global) -> Result<(Rehearsal, OpenClock), Fail> {
         let (mut auction, clock) = open(heap, 7)?;
-        let mut taker = UNIT;
-        taker.side = Side::Taker;
-        taker.name = *b"TAKER   ";
+        let taker = Application {
+            side: Side::Taker,
+            name: *b"TAKER   ",
+            ..UNIT
+        };
         assert_eq!(rt; refused(auction.enrol(&clock, &UNIT)), None);
         assert_eq!(rt; refused(auction.enrol(&clock, &taker)), None);
         begin(auction, clock)
