@@ -92,10 +92,14 @@ pub fn show(sheet: &mut Sheet) -> anyhow::Result<()> {
     let k: Straight = made(sheet.rt.alloc())?;
     let edge = exit_of(4, &EDGE, 5_000);
     let dale = exit_of(3, &DALE, 3_600);
-    let mut combe = exit_of(2, &COMBE, 3_600);
-    combe.years = 10;
-    let mut larger = combe;
-    larger.capacity = 1_500;
+    let combe = Exit {
+        years: 10,
+        ..exit_of(2, &COMBE, 3_600)
+    };
+    let larger = Exit {
+        capacity: 1_500,
+        ..combe
+    };
     sheet.rt.println("Clearings over K")?;
     show_clearing(sheet, &k, 4_000, 21_400, &[edge], None)?;
     let due = cleared_so(4_000, Ground::FloorExact, 0);

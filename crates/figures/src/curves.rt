@@ -6,7 +6,7 @@ ghost use Rattle.curve.specs.Weighing.{Weighed, sign_number};
 ghost use Rattle.figures.specs.Counts.{CountedFor};
 ghost use Rattle.figures.specs.Curves.{worked_corners, FoundSo};
 
-use crate::outcome::{ACCEPTED, Outcome};
+use crate::outcome::Outcome;
 use crate::sheet::Sheet;
 use crate::words::Found;
 use anyhow::Context;
@@ -126,15 +126,17 @@ fn row_of_seventeen() -> [Corner; 17] {
 
 fn show_counts(sheet: &mut Sheet) -> io::Result<()> {
     let row = row_of_seventeen();
-    let none = Outcome::of(Straight::check(&row[0..0]));
-    let one = Outcome::of(Straight::check(&row[0..1]));
-    let sixteen = Outcome::of(Straight::check(&row[0..16]));
-    let seventeen = Outcome::of(Straight::check(&row));
     sheet.rt.println("How many corners")?;
-    sheet.show("no corner: ", none, Outcome(Some(1)))?;
-    sheet.show("one corner: ", one, ACCEPTED)?;
-    sheet.show("16 corners: ", sixteen, ACCEPTED)?;
-    sheet.show("17 corners: ", seventeen, Outcome(Some(1)))
+    for (what, corners, due) in [
+        ("no corner", &row[..0], Some(1)),
+        ("one corner", &row[..1], None),
+        ("16 corners", &row[..16], None),
+        ("17 corners", &row[..], Some(1)),
+    ] {
+        let answer = Outcome::of(Straight::check(corners));
+        sheet.show(format_args!("{what}: "), answer, Outcome(due))?;
+    }
+    Ok(())
 }
 
 // Shows what the questions of a curve of a form answer at these edges.

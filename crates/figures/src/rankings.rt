@@ -75,7 +75,8 @@ const TIES: [(&str, [Exit; 2]); 4] = [
     ("tied on all four", [OAK, YEW]),
 ];
 
-// All the exits, ranked under a tie order.
+// All the exits, ranked under a tie order. Nothing calls it: by `only`, what `rank` makes of them is what `all_rule` and
+// `all_name` of WorkedRankings name.
 pub fn ranked<O: Order<Item = Exit>>(order: &ExitRanking<O>) -> [Exit; 6]
     ensures worked_out { result ≡ ranking_of (price_ahead (O.Order.ahead order.now.ties)) all_exits }
     ensures only { (due : List Exit) → RanksExits (O.Order.ahead order.now.ties) all_exits due → result ≡ due }
@@ -135,6 +136,7 @@ fn show_ranking<O: Order>(
     sheet.count(agrees, "")
 }
 
+// Not in the loop of `show_exits`: the length of an array that a zip yields is not known there.
 fn show_tie<O: Order<Item = Exit>>(
     sheet: &mut Sheet,
     on: &str,

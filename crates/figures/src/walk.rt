@@ -19,15 +19,14 @@ fn floor_of(cap: u32, spread: u32) -> u32
 
 // Each round's cap, floor and demand at the floor, down to the floor 0.
 fn walk<C: Curve>(rt: &HostRuntime, curve: &C, first_cap: u32, spread: u32) -> io::Result<()> {
-    let mut top = first_cap;
-    let mut round = 1u32;
-    // no range for a `for`: how many rounds there are shows where the floor comes to 0
-    while top > 0 && spread > 0 {
+    if spread == 0 {
+        return Ok(());
+    }
+    let caps = (1..=first_cap).rev().step_by(spread as usize);
+    for (round, top) in (1u32..).zip(caps) {
         let floor = floor_of(top, spread);
         let demand = curve.demand(floor);
         println!(rt; "round {round}: cap {top}, floor {floor}, demand {demand}")?;
-        top = floor;
-        round = round.saturating_add(1);
     }
     Ok(())
 }

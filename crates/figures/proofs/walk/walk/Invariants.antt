@@ -1,4 +1,0 @@
-use Rattle.figures.proofs.walk.walk.Given as goal
-
-abbrev pub decreases-loop-top : goal.decreases-loop-top
-decreases-loop-top g l = l.top
