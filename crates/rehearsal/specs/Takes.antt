@@ -36,7 +36,7 @@ progress_lines (coded.Gathering g) = []
 progress_lines (coded.Going x) = settled_lines (session_state x)
 progress_lines coded.Over = []
 
--- a fault that no record is to blame for
+-- a fault that is of no one record
 abbrev pub auction_fault_line : Unopenable → Line
 auction_fault_line why = line.Fault (why_layer why) (why_number why) 0
 

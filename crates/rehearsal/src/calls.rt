@@ -28,7 +28,7 @@ fn refusal_line<T: Drop>(res: Result<T, Refusal>, place: usize) -> Option<Line>
     })
 }
 
-// No impl of From may stand here, nor below: neither type is of this crate.
+// No impl of From may stand here and for `applied`: neither type is of this crate.
 fn side(choice: SideChoice) -> Side
     ensures { result ≡ side_of choice }
 {

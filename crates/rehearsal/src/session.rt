@@ -34,7 +34,7 @@ impl Session {
         }
     }
 
-    // Begins the auction before the first record of kind 4 to 7.
+    // Begins the auction before the first exit, years, step back or close.
     fn begun_for(self, said: &Record<&[u8]>) -> Session
         ensures { session_state result ≡ begun_for (session_state self) (item_of said.now) (session_stage self) }
     {

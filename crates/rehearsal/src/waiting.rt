@@ -1,7 +1,7 @@
 // The lines that wait to be given out, in their order.
 
 ghost use Rattle.std.specs.Prelude.{◌≡◌, [], ◌∷◌, ◌++◌};
-ghost use Rattle.std.specs.Iterator.{YieldsFirst};
+ghost use Rattle.std.specs.Iterator.{YieldsFirst, item_count};
 ghost use Rattle.std.specs.Option.{option_to_list};
 ghost use Rattle.listing.specs.Faults.{fault_line};
 ghost use Rattle.rehearsal.specs.Saying.{settled_lines};
@@ -46,45 +46,46 @@ impl Waiting {
         }
     }
 
-    // Lets the line of a fault wait, where none did.
-    pub(crate) fn put_fault(&mut self, fault: Fault)
-        requires { self.old ≡ [] }
-        ensures { self.new ≡ fault_line fault ∷ [] }
+    // The line of a fault.
+    pub(crate) fn fault(fault: Fault) -> Waiting
+        ensures { result ≡ fault_line fault ∷ [] }
     {
-        self.first = Some(Line::from(fault));
+        Waiting::new(Some(Line::from(fault)))
     }
 
-    // Lets the lines of a record that an auction heard wait, where none did: its first, and those of a settlement, if there is
-    // one.
-    fn put_heard(&mut self, line: Option<Line>, session: &Session)
-        requires { self.old ≡ [] }
-        ensures { self.new ≡ option_to_list line ++ settled_lines (session_state session.now) }
+    // The lines of a record that an auction heard: its first, and those of a settlement, if there is one.
+    fn of_session(line: Option<Line>, session: &Session) -> Waiting
+        ensures { result ≡ option_to_list line ++ settled_lines (session_state session.now) }
     {
-        self.first = line;
         match session {
-            Session::Enrolling(_) | Session::Open(_) | Session::Shut(_) => {}
-            Session::Settled(settled) => {
-                self.second = Some(settled.cleared_line());
-                self.awards = settled.awards();
-            }
+            Session::Enrolling(_) | Session::Open(_) | Session::Shut(_) => Waiting::new(line),
+            Session::Settled(settled) => Waiting {
+                first: line,
+                second: Some(settled.cleared_line()),
+                awards: settled.awards(),
+            },
         }
     }
 
-    // Lets the lines of a record wait, where none did.
-    pub(crate) fn put_all(&mut self, line: Option<Line>, progress: &Progress)
-        requires { self.old ≡ [] }
-        ensures { self.new ≡ option_to_list line ++ progress_lines progress.now }
+    // The lines of a record.
+    pub(crate) fn heard(line: Option<Line>, progress: &Progress) -> Waiting
+        ensures { result ≡ option_to_list line ++ progress_lines progress.now }
     {
         match progress {
-            Progress::Going(session) => self.put_heard(line, session),
-            Progress::Fresh(_) | Progress::Gathering(_) | Progress::Over => self.first = line,
+            Progress::Going(session) => Waiting::of_session(line, session),
+            Progress::Fresh(_) | Progress::Gathering(_) | Progress::Over => Waiting::new(line),
         }
     }
+}
 
-    // The line that comes next, if one is left.
-    pub(crate) fn next(&mut self) -> Option<Line>
-        ensures { YieldsFirst (λ lines. lines) self.old result self.new }
-    {
+impl Iterator for Waiting {
+    type Item = Line;
+
+    ghost next_gives = { YieldsFirst (λ lines. lines) };
+
+    ghost remaining = { item_count (λ lines. lines) };
+
+    fn next(&mut self) -> Option<Line> {
         if let Some(line) = self.first.take() {
             return Some(line);
         }

@@ -28,10 +28,7 @@ fn advance<'a>(
     ensures place { Further reader.old.at reader.new.at (words reader.old.file.now) result }
 {
     match reader.next(progress.due())? {
-        Some(placed) => {
-            let taken = progress.take(placed)?;
-            Ok(taken)
-        }
+        Some(placed) => Ok(progress.take(placed)?),
         None => {
             let line = progress.finish()?;
             Ok((Progress::Over, line))
@@ -49,10 +46,10 @@ impl<'a> Run<'a> {
         let progress = mem::replace(&mut self.progress, Progress::Over);
         match advance(&mut self.reader, progress) {
             Ok((progress, line)) => {
-                self.waiting.put_all(line, &progress);
+                self.waiting = Waiting::heard(line, &progress);
                 self.progress = progress;
             }
-            Err(fault) => self.waiting.put_fault(fault),
+            Err(fault) => self.waiting = Waiting::fault(fault),
         }
     }
 

@@ -11,4 +11,4 @@ returns-then-is_over c =
     let fs = found here.reader.file.now here.reader.at in
     let none = nothing_ahead here.progress fs (sym c.is_over.ensures ∙ c.if-is_over.true) in
     let handed = c.in_default.ensures in
-    (sym c.loop-line.invariant ∙ ap (λ (w : List Line). w ++ lines_ahead here.progress fs) handed.0 ∙ none, ap (λ (w : List Line). w ++ lines_ahead here.progress fs) handed.1 ∙ none)
+    (sym c.loop-line.invariant ∙ ap (λ (w : List Line). w ++ lines_ahead here.progress fs) handed.steps.0 ∙ none, ap (λ (w : List Line). w ++ lines_ahead here.progress fs) handed.steps.1 ∙ none)

@@ -59,15 +59,15 @@ take-requires c =
     let laid = subst (λ (o : Option Placed). Laid bytes (Ok o)) c.in-Some.is c.in_ok-placed.ensures.laid in
     takeable c.args.progress bytes at end c.in-Some.placed.place (item_of c.in-Some.placed.«record») c.requires.0 c.requires.1 out moved.1 moved.2 laid
 
-pub returns-in_err-taken-in-Some : goal.returns-in_err-taken-in-Some
-returns-in_err-taken-in-Some c =
-    let e = err_from_is_err_and c.from_residual-in_err-taken-in-Some.result c.from_residual-in_err-taken-in-Some.ensures.1 in
-    let p = passed c.from_residual-in_err-taken-in-Some.result _ _ e.1 e.2 in
+pub returns-in_err-take-in-Some : goal.returns-in_err-take-in-Some
+returns-in_err-take-in-Some c =
+    let e = err_from_is_err_and c.from_residual-in_err-take-in-Some.result c.from_residual-in_err-take-in-Some.ensures.1 in
+    let p = passed c.from_residual-in_err-take-in-Some.result _ _ e.1 e.2 in
     let bytes = c.args.reader.now.file.now in
     let fs = found bytes c.args.reader.now.at in
     let out = handed_out c.args.progress c.due.result _ _ fs c.due.ensures c.in_ok-placed.ensures.answer c.in-Some.is in
     record {
-      lines = p.lines (found bytes c.next.new.self.at) ∙ record_fault c.args.progress _ fs c.in-Some.placed.place (item_of c.in-Some.placed.«record») c.requires.1 out c.in_err-taken-in-Some.ensures.lines;
+      lines = p.lines (found bytes c.next.new.self.at) ∙ record_fault c.args.progress _ fs c.in-Some.placed.place (item_of c.in-Some.placed.«record») c.requires.1 out c.in_err-take-in-Some.ensures.lines;
       file = c.next.ensures.file;
       bytes = c.next.ensures.bytes;
       place = p.further c.args.reader.now.at c.next.new.self.at (words bytes);
@@ -87,23 +87,23 @@ returns-in_err-line-in-None c =
       place = p.further c.args.reader.now.at c.next.new.self.at (words bytes);
     }
 
-pub returns-in_ok-taken-in-Some : goal.returns-in_ok-taken-in-Some
-returns-in_ok-taken-in-Some c =
+pub returns-in_ok-take-in-Some : goal.returns-in_ok-take-in-Some
+returns-in_ok-take-in-Some c =
     let bytes = c.args.reader.now.file.now in
     let at : ℕ = c.args.reader.now.at in
     let fs = found bytes at in
     let end : ℕ = c.next.new.self.at in
     let item = item_of c.in-Some.placed.«record» in
-    let after = c.in_ok-taken-in-Some.taken in
+    let after = c.in_ok-take-in-Some.field-0 in
     let out = handed_out c.args.progress c.due.result _ _ fs c.due.ensures c.in_ok-placed.ensures.answer c.in-Some.is in
     let moved = subst (λ (o : Option Placed). Moved bytes at end (Ok o)) c.in-Some.is c.in_ok-placed.ensures.place in
     let one = size_some (item_kind item) in
     let further : at < end = omega (arith, moved.1, one) in
     record {
-      lines = record_lines c.args.progress after.0 after.1 fs (found bytes end) c.in-Some.placed.place item c.requires.1 out moved.0 c.in_ok-taken-in-Some.ensures.lines;
+      lines = record_lines c.args.progress after.0 after.1 fs (found bytes end) c.in-Some.placed.place item c.requires.1 out moved.0 c.in_ok-take-in-Some.ensures.lines;
       file = c.next.ensures.file;
       bytes = c.next.ensures.bytes;
-      place = (record_sound c.args.progress after.0 after.1 at end (words bytes) c.in-Some.placed.place item c.requires.0 c.in_ok-taken-in-Some.ensures.lines c.in_ok-taken-in-Some.ensures.stage moved.1, λ on. (further, moved.2));
+      place = (record_sound c.args.progress after.0 after.1 at end (words bytes) c.in-Some.placed.place item c.requires.0 c.in_ok-take-in-Some.ensures.lines c.in_ok-take-in-Some.ensures.stage moved.1, λ on. (further, moved.2));
     }
 
 pub returns-in_ok-line-in-None : goal.returns-in_ok-line-in-None
