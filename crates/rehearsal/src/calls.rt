@@ -43,6 +43,7 @@ fn applied(unit: UnitRecord<&[u8]>) -> Application
     requires { length unit.name.now ≡ 8 }
     ensures { result ≡ application (unit_item unit.entry) }
 {
+    // copied, since what `try_into` answers is a relation that the proof would have to unfold
     let mut name = [0; 8];
     name.copy_from_slice(unit.name);
     Application {
@@ -56,6 +57,8 @@ fn applied(unit: UnitRecord<&[u8]>) -> Application
 }
 
 impl Held<Enrolling> {
+    // The place comes beside what was matched out of the record, here and at `Held<Open>`: a whole `Placed` would be matched
+    // a second time.
     fn enrol(&mut self, place: usize, said: &Application) -> Option<Line>
         ensures { (auction_state self.new.auction, result) ≡ reply place (auction_state self.old.auction) (enrolled (auction_state self.old.auction) self.old.clock.stamp said.now) }
     {
@@ -98,7 +101,6 @@ impl Held<Enrolling> {
 }
 
 impl Held<Open> {
-    // The place comes beside what was matched out of the record: a whole `Placed` would be matched a second time.
     fn exit(&mut self, place: usize, said: ExitRecord) -> Option<Line>
         ensures { (auction_state self.new.auction, result) ≡ reply place (auction_state self.old.auction) (exited (auction_state self.old.auction) self.old.clock.stamp said.unit said.price) }
     {

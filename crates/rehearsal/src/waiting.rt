@@ -53,27 +53,31 @@ impl Waiting {
         Waiting::new(Some(Line::from(fault)))
     }
 
-    // The lines of a record that an auction heard: its first, and those of a settlement, if there is one.
-    fn of_session(line: Option<Line>, session: &Session) -> Waiting
-        ensures { result ≡ option_to_list line ++ settled_lines (session_state session.now) }
+    // Lets the lines of a record that an auction heard wait, where none did: its first, and those of a settlement, if there is
+    // one.
+    fn put_heard(&mut self, line: Option<Line>, session: &Session)
+        requires { self.old ≡ [] }
+        ensures { self.new ≡ option_to_list line ++ settled_lines (session_state session.now) }
     {
+        self.first = line;
         match session {
-            Session::Enrolling(_) | Session::Open(_) | Session::Shut(_) => Waiting::new(line),
-            Session::Settled(settled) => Waiting {
-                first: line,
-                second: Some(settled.cleared_line()),
-                awards: settled.awards(),
-            },
+            Session::Enrolling(_) | Session::Open(_) | Session::Shut(_) => {}
+            Session::Settled(settled) => {
+                self.second = Some(settled.cleared_line());
+                self.awards = settled.awards();
+            }
         }
     }
 
-    // The lines of a record.
-    pub(crate) fn heard(line: Option<Line>, progress: &Progress) -> Waiting
-        ensures { result ≡ option_to_list line ++ progress_lines progress.now }
+    // Lets the lines of a record wait, where none did. Not made new, as those of a fault: a run took twice as long, since the
+    // room for the rows was copied at each record.
+    pub(crate) fn put_all(&mut self, line: Option<Line>, progress: &Progress)
+        requires { self.old ≡ [] }
+        ensures { self.new ≡ option_to_list line ++ progress_lines progress.now }
     {
         match progress {
-            Progress::Going(session) => Waiting::of_session(line, session),
-            Progress::Fresh(_) | Progress::Gathering(_) | Progress::Over => Waiting::new(line),
+            Progress::Going(session) => self.put_heard(line, session),
+            Progress::Fresh(_) | Progress::Gathering(_) | Progress::Over => self.first = line,
         }
     }
 }

@@ -46,7 +46,7 @@ impl<'a> Run<'a> {
         let progress = mem::replace(&mut self.progress, Progress::Over);
         match advance(&mut self.reader, progress) {
             Ok((progress, line)) => {
-                self.waiting = Waiting::heard(line, &progress);
+                self.waiting.put_all(line, &progress);
                 self.progress = progress;
             }
             Err(fault) => self.waiting = Waiting::fault(fault),

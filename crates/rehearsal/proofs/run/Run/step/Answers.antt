@@ -21,7 +21,7 @@ returns-in-Ok c =
     let bytes = was.reader.file.now in
     let after = c.advance.new.reader in
     record {
-      lines = went_lines _ _ _ c.in-Ok.progress was.progress c.replace-progress.result bytes after.file.now after.at was.reader.at c.heard-self.ensures c.advance.ensures.bytes c.in-Ok.ensures.lines c.replace-progress.ensures.value c.requires.0;
+      lines = went_lines _ _ _ c.in-Ok.progress was.progress c.replace-progress.result bytes after.file.now after.at was.reader.at c.put_all.ensures c.advance.ensures.bytes c.in-Ok.ensures.lines c.replace-progress.ensures.value c.requires.0;
       falls = falls (is_over (progress_of c.in-Ok.progress)) (is_over (progress_of was.progress)) (words after.file.now) (words bytes) after.at was.reader.at (ap words c.advance.ensures.bytes) c.requires.1 c.in-Ok.ensures.place.1;
     }
 
