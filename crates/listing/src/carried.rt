@@ -113,7 +113,8 @@ impl From<Refusal> for Unopenable {
     }
 }
 
-// Where no curve was made of the corners.
+// Where no curve was made of the corners. Not one impl with the next, over `W: Into<Unopenable>`: it would not say which
+// layer's question it carries.
 impl<T: Drop> From<GivenBack<T, CurveRefusal>> for Unopenable {
     ghost from_gives = { λ back r. r ≡ Curve back.why };
 

@@ -2,8 +2,7 @@ use crate::fault::Layer;
 use clearing::Ground;
 use ranking::Name;
 
-// A line of a listing. Its question is a number, as the model's answers have it: a refusal would be turned back into its number
-// wherever a line is compared with an answer.
+// A line of a listing. Its question is a number, as in the model's answers, so that the two are compared as they stand.
 #[derive(Clone, Copy, PartialEq, Eq, Debug)]
 pub enum Line {
     Round {

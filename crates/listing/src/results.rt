@@ -22,6 +22,7 @@ impl From<RollRow> for Line {
     ghost from_gives = { λ row r. r ≡ Award row.name row.capacity row.years };
 
     fn from(row: RollRow) -> Line {
+        // a variable, as the check covers no field that is an array and is put into a literal straight
         let name = row.name;
         Line::Award {
             name,
