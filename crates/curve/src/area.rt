@@ -28,10 +28,16 @@ impl Area {
         high.over_both(self) - self.over_both(high)
     }
 
+    fn twice_both_widths(self, other: Area) -> u64
+        ensures { result ≡ 2 * (self.width * other.width) }
+    {
+        2 * (u64::from(self.width) * u64::from(other.width))
+    }
+
     // A sum, over twice the product of both widths.
     pub(crate) fn goal(self, high: Area, sum: i64) -> i128
         ensures { result ≡ sum *ℤ pos (2 * (self.width * high.width)) }
     {
-        i128::from(sum) * i128::from(2 * (u64::from(self.width) * u64::from(high.width)))
+        i128::from(sum) * i128::from(self.twice_both_widths(high))
     }
 }

@@ -19,21 +19,29 @@ fn are_in_range(corners: &[Corner]) -> bool
     })
 }
 
+fn rises(corner: &Corner, next: &Corner) -> bool
+    ensures { result ≡ in_order corner.now next.now }
+{
+    corner.quantity < next.quantity && next.price <= corner.price
+}
+
 // `is_sorted_by` asks every corner and the next one.
 fn are_in_order(corners: &[Corner]) -> bool
     ensures { result ≡ neighbours in_order corners.now }
 {
-    corners.is_sorted_by(|corner, next| {
-        corner.quantity < next.quantity && next.price <= corner.price
-    })
+    corners.is_sorted_by(rises)
+}
+
+fn is_near(corner: &Corner, next: &Corner) -> bool
+    ensures { result ≡ near corner.now next.now }
+{
+    next.quantity.saturating_sub(corner.quantity) <= WIDEST_GAP
 }
 
 fn are_near(corners: &[Corner]) -> bool
     ensures { result ≡ neighbours near corners.now }
 {
-    corners.is_sorted_by(|corner, next| {
-        next.quantity.saturating_sub(corner.quantity) <= WIDEST_GAP
-    })
+    corners.is_sorted_by(is_near)
 }
 
 // The questions put to the corners of a curve, in order.

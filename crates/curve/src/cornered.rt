@@ -12,7 +12,7 @@ use crate::demand::Curve;
 use crate::form::{Form, Lines, Steps};
 use crate::given_back::GivenBack;
 use crate::refusal::CurveRefusal;
-use crate::sign::{Sign, sign_of};
+use crate::sign::Sign;
 use std::marker::PhantomData;
 
 // The curve with these corners, which goes from each to the next by its form.
@@ -53,6 +53,7 @@ impl<S: Form> Cornered<S> {
         ensures refusal { refused (λ e. question e.why) result ≡ first_no (corner_questions S.SHAPE corners.items) }
         ensures corners { elim result [ Ok c ↦ c.corners ≡ corners | Err e ↦ e.value ≡ corners ] }
     {
+        // a `match`, since `map_err` would move the corners, which the `Ok` way needs
         match Self::check(&corners) {
             Ok(()) => Ok(Self::new(corners)),
             Err(why) => Err(GivenBack {
@@ -87,8 +88,6 @@ impl<S: Form> Curve for Cornered<S> {
         if from > to || to > CEILING {
             return Err(CurveRefusal::Places);
         }
-        let low = self.measure(from);
-        let high = self.measure(to);
-        Ok(sign_of(low.gap(high), low.goal(high, sum)))
+        Ok(self.compare(from, to, sum))
     }
 }

@@ -1,15 +1,17 @@
-ghost use Rattle.std.specs.Prelude.{◌≡◌, ◌≤◌};
+ghost use Rattle.std.specs.Prelude.{◌≡◌, ◌≤◌, Ok};
 ghost use Rattle.curve.specs.Meaning.{ceiling};
 ghost use Rattle.curve.specs.Measures.{Measured};
-ghost use Rattle.curve.specs.Outline.{origin as the_origin, reach as the_reach, sides};
+ghost use Rattle.curve.specs.Outline.{origin as the_origin, reach as the_reach, sides, outline};
+ghost use Rattle.curve.specs.Weighing.{Tells};
 
 use crate::area::Area;
 use crate::corner::Corner;
 use crate::cornered::Cornered;
 use crate::form::Form;
 use crate::side::Side;
+use crate::sign::{Sign, sign_of};
 
-// `reach` and `measure` are loops, since each turn needs the corner before and what was summed so far.
+// `reach` and `measure` are loops, since each turn needs the corner before, and `measure` what was summed so far.
 impl<S: Form> Cornered<S> {
     // Where the curve begins: before the first corner the price is the first corner's.
     fn origin(&self) -> Corner
@@ -55,5 +57,15 @@ impl<S: Form> Cornered<S> {
             parts: u128::from(twice),
             width: 1,
         }
+    }
+
+    // How the area between two places compares with a sum of pence.
+    pub(crate) fn compare(&self, from: u32, to: u32, sum: i64) -> Sign
+        requires { (from ≤ to) × (to ≤ ceiling) }
+        ensures { Tells (outline (sides S.SHAPE self.now.corners.items)) from to sum (Ok result) }
+    {
+        let low = self.measure(from);
+        let high = self.measure(to);
+        sign_of(low.gap(high), low.goal(high, sum))
     }
 }
