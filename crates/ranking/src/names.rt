@@ -19,6 +19,7 @@ pub trait Named: Numbered {
 }
 
 // The order by name: the lower name is ahead, byte by byte, then the lower unit number.
+// `default()` makes it, so by the rule of derives of an item that has a default too, as exits and rows have.
 #[derive(Clone, Copy, Default)]
 pub struct ByName<T> {
     of: PhantomData<T>,
