@@ -23,8 +23,8 @@ abbrev pub in_range : Corner → Bool
 in_range c = nat_le c.price 10000 && (nat_le 1 c.quantity && nat_le c.quantity ceiling)
 
 -- of a corner and the next: the quantity rises and the price does not
-abbrev pub in_order : Corner → Corner → Bool
-in_order c e = nat_lt c.quantity e.quantity && nat_le e.price c.price
+abbrev pub rises : Corner → Corner → Bool
+rises c e = nat_lt c.quantity e.quantity && nat_le e.price c.price
 
 -- of a corner and the next: they are not too far apart
 abbrev pub near : Corner → Corner → Bool
@@ -33,11 +33,11 @@ near c e = nat_le (e.quantity - c.quantity) 10000000
 abbrev pub corner_questions : Shape → List Corner → List Question
 corner_questions Steps cs =
     record { number = 1; yes = few cs }
-    ∷ (record { number = 2; yes = list_all in_range cs } ∷ (record { number = 3; yes = neighbours in_order cs } ∷ []))
+    ∷ (record { number = 2; yes = list_all in_range cs } ∷ (record { number = 3; yes = neighbours rises cs } ∷ []))
 corner_questions Lines cs =
     record { number = 1; yes = few cs }
     ∷ (record { number = 2; yes = list_all in_range cs }
-    ∷ (record { number = 3; yes = neighbours in_order cs } ∷ (record { number = 4; yes = neighbours near cs } ∷ [])))
+    ∷ (record { number = 3; yes = neighbours rises cs } ∷ (record { number = 4; yes = neighbours near cs } ∷ [])))
 
 abbrev pub accepted : Shape → List Corner → Bool
 accepted k cs = all_yes (corner_questions k cs)

@@ -8,7 +8,7 @@ use Rattle.curve.specs.declared.corner.Corner.{Corner}
 use Rattle.curve.specs.declared.side.Shape.{Shape}
 use Rattle.curve.specs.declared.side.Shape.TheVariants.{Steps, Lines}
 use Rattle.curve.specs.declared.side.Side.{Side}
-use Rattle.curve.specs.Corners.{few, in_range, in_order, near, neighbours, neighbours_from, accepted}
+use Rattle.curve.specs.Corners.{few, in_range, rises, near, neighbours, neighbours_from, accepted}
 use Rattle.curve.specs.Meaning.{ceiling}
 use Rattle.curve.specs.Outline.{side, sides_from, origin, sides, Sound}
 
@@ -24,22 +24,22 @@ abbrev pub Falling : ℕ → ℕ → List Side → Type 0
 Falling q p [] = Unit {0}
 Falling q p (s ∷ ss) = Next q p s × Falling s.to s.end ss
 
-next : (k : Shape) (c e : Corner) (p : ℕ) → in_range e ≡ true → in_order c e ≡ true → c.price ≤ p → Next c.quantity p (side k c e)
+next : (k : Shape) (c e : Corner) (p : ℕ) → in_range e ≡ true → rises c e ≡ true → c.price ≤ p → Next c.quantity p (side k c e)
 next k c e p range order le =
     let most : e.quantity ≤ ceiling = grind (arith, nat_tests) in
-    let rises : c.quantity < e.quantity = grind (arith, nat_tests) in
+    let wider : c.quantity < e.quantity = grind (arith, nat_tests) in
     let falls : e.price ≤ c.price = grind (arith, nat_tests) in
     elim k as (λ t. Next c.quantity p (side t c e)) [
-      | Steps ↦ record { follows = refl; wide = rises; most = most; under = omega arith; down = omega arith }
-      | Lines ↦ record { follows = refl; wide = rises; most = most; under = le; down = falls }
+      | Steps ↦ record { follows = refl; wide = wider; most = most; under = omega arith; down = omega arith }
+      | Lines ↦ record { follows = refl; wide = wider; most = most; under = le; down = falls }
     ]
 
-pub falling_from : (k : Shape) (c : Corner) (cs : List Corner) (p : ℕ) → list_all in_range cs ≡ true → neighbours_from in_order c cs ≡ true
+pub falling_from : (k : Shape) (c : Corner) (cs : List Corner) (p : ℕ) → list_all in_range cs ≡ true → neighbours_from rises c cs ≡ true
     → c.price ≤ p → Falling c.quantity p (sides_from k c cs)
 falling_from k c [] p range order le = tt
 falling_from k c (e ∷ es) p range order le =
     let r = and_parts (in_range e) (list_all in_range es) range in
-    let o = and_parts (in_order c e) (neighbours_from in_order e es) order in
+    let o = and_parts (rises c e) (neighbours_from rises e es) order in
     let rest : Falling e.quantity e.price (sides_from k e es) = falling_from k e es e.price r.1 o.1 (omega arith) in (
       next k c e p r.0 o.0 le,
       elim k as (λ t. Falling e.quantity e.price (sides_from k e es) → Falling (side t c e).to (side t c e).end (sides_from k e es)) [
@@ -49,26 +49,26 @@ falling_from k c (e ∷ es) p range order le =
     )
 
 -- accepted corners are in range and in order
-in_turn : (k : Shape) (cs : List Corner) → accepted k cs ≡ true → (list_all in_range cs ≡ true) × (neighbours in_order cs ≡ true)
+in_turn : (k : Shape) (cs : List Corner) → accepted k cs ≡ true → (list_all in_range cs ≡ true) × (neighbours rises cs ≡ true)
 in_turn Steps cs passed =
-    let a = and_parts (few cs) (list_all in_range cs && (neighbours in_order cs && true)) passed in
-    let b = and_parts (list_all in_range cs) (neighbours in_order cs && true) a.1 in
-    (b.0, (and_parts (neighbours in_order cs) true b.1).0)
+    let a = and_parts (few cs) (list_all in_range cs && (neighbours rises cs && true)) passed in
+    let b = and_parts (list_all in_range cs) (neighbours rises cs && true) a.1 in
+    (b.0, (and_parts (neighbours rises cs) true b.1).0)
 in_turn Lines cs passed =
-    let a = and_parts (few cs) (list_all in_range cs && (neighbours in_order cs && (neighbours near cs && true))) passed in
-    let b = and_parts (list_all in_range cs) (neighbours in_order cs && (neighbours near cs && true)) a.1 in
-    (b.0, (and_parts (neighbours in_order cs) (neighbours near cs && true) b.1).0)
+    let a = and_parts (few cs) (list_all in_range cs && (neighbours rises cs && (neighbours near cs && true))) passed in
+    let b = and_parts (list_all in_range cs) (neighbours rises cs && (neighbours near cs && true)) a.1 in
+    (b.0, (and_parts (neighbours rises cs) (neighbours near cs && true) b.1).0)
 
 -- the corner c was passed, and cs are those to come
 pub record Walking (k : Shape) (c : Corner) (cs : List Corner) : Type 0 where
   pub falling : Falling c.quantity c.price (sides_from k c cs)
   pub cheap : c.price ≤ 10000
 
-start_from : (k : Shape) (cs : List Corner) → list_all in_range cs ≡ true → neighbours in_order cs ≡ true → Walking k (origin cs) cs
+start_from : (k : Shape) (cs : List Corner) → list_all in_range cs ≡ true → neighbours rises cs ≡ true → Walking k (origin cs) cs
 start_from k [] range order = record { falling = tt; cheap = omega arith }
 start_from k (c ∷ cs) range order =
     let own = (and_parts (in_range c) (list_all in_range cs) range).0 in
-    let first : in_order (origin (c ∷ cs)) c ≡ true = grind (arith, nat_tests) in
+    let first : rises (origin (c ∷ cs)) c ≡ true = grind (arith, nat_tests) in
     record {
       falling = falling_from k (origin (c ∷ cs)) (c ∷ cs) c.price range (and_from _ _ first order) (omega arith);
       cheap = grind (arith, nat_tests);

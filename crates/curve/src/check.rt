@@ -1,6 +1,6 @@
 ghost use Rattle.std.specs.Prelude.{◌≡◌, is_ok};
 ghost use Rattle.std.specs.List.{list_all};
-ghost use Rattle.curve.specs.Corners.{neighbours, in_range, in_order, near, corner_questions, accepted};
+ghost use Rattle.curve.specs.Corners.{neighbours, in_range, rises, near, corner_questions, accepted};
 ghost use Rattle.curve.specs.Questions.{refused, question, first_no};
 
 use crate::corner::{CEILING, Corner, MOST_PENCE};
@@ -20,14 +20,14 @@ fn are_in_range(corners: &[Corner]) -> bool
 }
 
 fn rises(corner: &Corner, next: &Corner) -> bool
-    ensures { result ≡ in_order corner.now next.now }
+    ensures { result ≡ rises corner.now next.now }
 {
     corner.quantity < next.quantity && next.price <= corner.price
 }
 
 // `is_sorted_by` asks every corner and the next one.
 fn are_in_order(corners: &[Corner]) -> bool
-    ensures { result ≡ neighbours in_order corners.now }
+    ensures { result ≡ neighbours rises corners.now }
 {
     corners.is_sorted_by(rises)
 }
@@ -58,8 +58,8 @@ pub(crate) fn check(shape: Shape, corners: &[Corner]) -> Result<(), CurveRefusal
     if !are_in_order(corners) {
         return Err(CurveRefusal::CornerOrder);
     }
-    match shape {
-        Shape::Lines if !are_near(corners) => Err(CurveRefusal::CornerGap),
-        Shape::Lines | Shape::Steps => Ok(()),
+    if shape == Shape::Lines && !are_near(corners) {
+        return Err(CurveRefusal::CornerGap);
     }
+    Ok(())
 }

@@ -6,7 +6,7 @@ use crate::corner::Corner;
 use crate::form::Form;
 
 // How the price goes from one corner to the next: by a step, or along a line.
-#[derive(Clone, Copy)]
+#[derive(Clone, Copy, PartialEq, Eq)]
 pub enum Shape {
     Steps,
     Lines,
