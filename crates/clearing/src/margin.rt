@@ -22,6 +22,7 @@ impl Margin {
     fn dearer_by(self) -> i64
         ensures { result ≡ dearer_by self.last self.next }
     {
+        // `as` is proved to lose nothing; `i64::try_from` would answer an error that cannot come
         self.next.cost() as i64 - self.last.cost() as i64
     }
 

@@ -1,5 +1,5 @@
 // One of the two orders of ties.
-// An enum, since the file selects the order when the program runs.
+// An enum, since the file selects it at run time and the gate refuses a function that hands out a `dyn` value it makes.
 #[derive(Clone, Copy)]
 pub enum SelectedOrder {
     ByRule,
