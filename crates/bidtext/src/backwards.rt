@@ -40,17 +40,14 @@ fn list(heap: Global, file: &[u8]) -> Result<Listed, AllocError>
     let mut text = String::new(heap);
     let mut reader = Reader::new(file);
     loop {
-        let read = match next_record(&mut reader) {
-            Ok(read) => read,
+        match next_record(&mut reader) {
+            Ok(Some(placed)) => add_record(heap, &mut text, placed.record)?,
+            Ok(None) => return Ok(Listed { text, fault: None }),
             Err(fault) => {
                 let fault = Some(fault);
                 return Ok(Listed { text, fault });
             }
-        };
-        let Some(placed) = read else {
-            return Ok(Listed { text, fault: None });
-        };
-        add_record(heap, &mut text, placed.record)?;
+        }
     }
 }
 

@@ -4,6 +4,7 @@ ghost use Rattle.bidfile.specs.Layout.{Fits, head, layout, word_bytes};
 ghost use Rattle.bidtext.specs.RoundTrip.{own_item, own_unit};
 ghost use Rattle.std.specs.List.{flat_map};
 
+use crate::values::LIMIT;
 use bidfile::{Kind, Record, TermsRecord, UnitRecord};
 use std::alloc::AllocError;
 
@@ -12,7 +13,7 @@ fn head(kind: Kind, value: u32) -> u32
     requires { value < 268435456 }
     ensures { result ≡ head (kind_number kind) value }
 {
-    u32::from(kind) * 268_435_456 + value
+    u32::from(kind) * LIMIT + value
 }
 
 fn push_word(words: &mut Vec<u8>, word: u32) -> Result<(), AllocError>

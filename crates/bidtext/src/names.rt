@@ -16,11 +16,7 @@ pub(crate) fn is_hexed(field: &[u8]) -> bool
 fn byte_at(field: &[u8], place: usize) -> u8
     ensures { result ≡ slice_index_or field.now place 32 }
 {
-    if place < field.len() {
-        field[place]
-    } else {
-        b' '
-    }
+    field.get(place).copied().unwrap_or(b' ')
 }
 
 fn are_marks(field: &[u8]) -> bool
@@ -32,7 +28,7 @@ fn are_marks(field: &[u8]) -> bool
 fn read_plain(field: &[u8]) -> Result<[u8; 8], Expected>
     ensures { result ≡ plain_name field.now }
 {
-    if field.len() >= 1 && field.len() <= 8 && are_marks(field) {
+    if (1..=8).contains(&field.len()) && are_marks(field) {
         Ok(std::array::from_fn(|place| byte_at(field, place)))
     } else {
         Err(Expected::Name)
@@ -42,12 +38,12 @@ fn read_plain(field: &[u8]) -> Result<[u8; 8], Expected>
 fn hex_value(digit: u8) -> u8
     ensures { result ≡ hex_value digit }
 {
-    if digit < 65 {
-        digit.saturating_sub(48)
-    } else if digit < 97 {
-        digit - 55
+    if digit < b'A' {
+        digit.saturating_sub(b'0')
+    } else if digit < b'a' {
+        digit - b'A' + 10
     } else {
-        digit - 87
+        digit - b'a' + 10
     }
 }
 

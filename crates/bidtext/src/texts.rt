@@ -54,7 +54,11 @@ fn hex_digit(value: u8) -> u8
     requires { value < 16 }
     ensures { result ≡ hex_digit value }
 {
-    if value < 10 { 48 + value } else { 55 + value }
+    if value < 10 {
+        b'0' + value
+    } else {
+        b'A' + (value - 10)
+    }
 }
 
 // A name as hexadecimal digits.
@@ -75,10 +79,7 @@ fn name_text(heap: Global, name: &[u8]) -> Result<String, AllocError>
     if !is_plain(name) {
         return hex_text(heap, name);
     }
-    match from_utf8(&name[..marks(name)]) {
-        Ok(text) => String::from_str(heap, text),
-        Err(_) => unreachable(),
-    }
+    String::from_str(heap, from_utf8(&name[..marks(name)]).unwrap())
 }
 
 fn terms_text(heap: Global, record: TermsRecord) -> Result<String, AllocError>

@@ -7,7 +7,7 @@ ghost use Rattle.std.specs.Str.{bytes_eq};
 use crate::expected::Expected;
 
 // One more than the largest number of 28 bits.
-const LIMIT: u32 = 268_435_456;
+pub(crate) const LIMIT: u32 = 268_435_456;
 
 pub(crate) fn is_word(field: &[u8], word: &[u8]) -> bool
     ensures { result ≡ bytes_eq field.now word.now }
