@@ -1,5 +1,5 @@
--- What is told of a line that cannot be read.
-use Rattle.std.specs.Prelude.{ℕ, List, codes}
+-- What is told of a line that cannot be read, and the words that have to stand on one.
+use Rattle.std.specs.Prelude.{ℕ, List, [], codes}
 use Rattle.bidtext.specs.declared.expected.Expected.{Expected}
 use Rattle.bidtext.specs.declared.expected.Expected.TheVariants as expected
 
@@ -20,3 +20,22 @@ expected_text expected.Random = codes "the word random"
 expected_text expected.Number = codes "a number in decimal digits"
 expected_text expected.SmallNumber = codes "a number of at most 268435455"
 expected_text expected.End = codes "nothing more on the line"
+
+-- the word that has to stand there, none where it is no certain word
+abbrev pub expected_word : Expected → List ℕ
+expected_word expected.Record = []
+expected_word expected.Cap = codes "cap"
+expected_word expected.Spread = codes "spread"
+expected_word expected.Threshold = codes "threshold"
+expected_word expected.Curve = codes "curve"
+expected_word expected.CurveChoice = []
+expected_word expected.Order = codes "order"
+expected_word expected.OrderChoice = []
+expected_word expected.Name = []
+expected_word expected.Class = []
+expected_word expected.Side = []
+expected_word expected.Years = codes "years"
+expected_word expected.Random = codes "random"
+expected_word expected.Number = []
+expected_word expected.SmallNumber = []
+expected_word expected.End = []

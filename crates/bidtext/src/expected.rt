@@ -1,5 +1,5 @@
-ghost use Rattle.std.specs.Prelude.{Some};
-ghost use Rattle.bidtext.specs.Expectations.{expected_text};
+ghost use Rattle.std.specs.Prelude.{◌≡◌, Some};
+ghost use Rattle.bidtext.specs.Expectations.{expected_text, expected_word};
 
 use std::fmt;
 
@@ -22,6 +22,24 @@ pub enum Expected {
     Number,
     SmallNumber,
     End,
+}
+
+impl Expected {
+    // The word that has to stand there, empty where it is no certain word.
+    pub(crate) fn word(self) -> &'static str
+        ensures { result.now ≡ expected_word self }
+    {
+        match self {
+            Expected::Cap => "cap",
+            Expected::Spread => "spread",
+            Expected::Threshold => "threshold",
+            Expected::Curve => "curve",
+            Expected::Order => "order",
+            Expected::Years => "years",
+            Expected::Random => "random",
+            _ => "",
+        }
+    }
 }
 
 impl fmt::Display for Expected {

@@ -2,6 +2,7 @@ ghost use Rattle.std.specs.Prelude.{◌≡◌, ◌<◌, Some, Ok};
 ghost use Rattle.bidfile.specs.Items.{Item};
 ghost use Rattle.bidfile.specs.Layout.{Fits};
 ghost use Rattle.bidtext.specs.RoundTrip.{line_said, Fitting};
+ghost use Rattle.bidtext.specs.Expectations.{expected_word};
 ghost use Rattle.bidtext.specs.Texts.{line_text};
 ghost use Rattle.bidtext.specs.Fields.{fields, field_at};
 ghost use Rattle.bidtext.specs.Lines.{labelled, terms_line, pair_line, corner_line, unit_line, exit_line, years_line, entry_in, record_in, line_record};
@@ -17,39 +18,24 @@ use bidfile::{
 use curve::Corner;
 
 // A number behind its word, which stands at a place.
-fn read_labelled(
-    line: &[u8],
-    place: usize,
-    word: &[u8],
-    expected: Expected,
-) -> Result<u32, Expected>
+fn read_labelled(line: &[u8], place: usize, expected: Expected) -> Result<u32, Expected>
     requires { place < 100 }
-    ensures { result ≡ labelled (fields line.now) place word.now expected }
+    ensures { result ≡ labelled (fields line.now) place (expected_word expected) expected }
 {
-    read_word(field(line, place), word, expected)?;
+    read_word(field(line, place), expected)?;
     read_number(field(line, place + 1))
 }
 
 fn read_terms(line: &[u8]) -> Result<TermsRecord, Expected>
     ensures { result ≡ terms_line (fields line.now) }
 {
-    let cap = read_labelled(line, 1, b"cap", Expected::Cap)?;
-    let spread = read_labelled(line, 3, b"spread", Expected::Spread)?;
-    let threshold = read_labelled(line, 5, b"threshold", Expected::Threshold)?;
-    read_word(field(line, 7), b"curve", Expected::Curve)?;
-    let curve = read_choice(
-        field(line, 8),
-        CurveChoice::Straight,
-        CurveChoice::Stepped,
-        Expected::CurveChoice,
-    )?;
-    read_word(field(line, 9), b"order", Expected::Order)?;
-    let order = read_choice(
-        field(line, 10),
-        OrderChoice::ByRule,
-        OrderChoice::ByName,
-        Expected::OrderChoice,
-    )?;
+    let cap = read_labelled(line, 1, Expected::Cap)?;
+    let spread = read_labelled(line, 3, Expected::Spread)?;
+    let threshold = read_labelled(line, 5, Expected::Threshold)?;
+    read_word(field(line, 7), Expected::Curve)?;
+    let curve = read_choice::<CurveChoice>(field(line, 8))?;
+    read_word(field(line, 9), Expected::Order)?;
+    let order = read_choice::<OrderChoice>(field(line, 10))?;
     read_end(field(line, 11))?;
     Ok(TermsRecord {
         cap,
@@ -83,14 +69,9 @@ fn read_unit(line: &[u8]) -> Result<UnitRecord<[u8; 8]>, Expected>
     let name = read_name(field(line, 1))?;
     let capacity = read_number(field(line, 2))?;
     let class = read_class(field(line, 3))?;
-    let side = read_choice(
-        field(line, 4),
-        SideChoice::Taker,
-        SideChoice::Maker,
-        Expected::Side,
-    )?;
-    let years = read_labelled(line, 5, b"years", Expected::Years)?;
-    let random = read_labelled(line, 7, b"random", Expected::Random)?;
+    let side = read_choice::<SideChoice>(field(line, 4))?;
+    let years = read_labelled(line, 5, Expected::Years)?;
+    let random = read_labelled(line, 7, Expected::Random)?;
     read_end(field(line, 9))?;
     Ok(UnitRecord {
         capacity,

@@ -1,4 +1,5 @@
 ghost use Rattle.std.specs.Prelude.{◌≡◌, min};
+ghost use Rattle.bidtext.specs.Expectations.{expected_word};
 ghost use Rattle.bidtext.specs.Values.{value_of, number_in, keyword, class_in, nothing_in, numeral};
 ghost use Rattle.bidtext.specs.Letters.{digit};
 ghost use Rattle.std.specs.List.{list_all};
@@ -53,10 +54,11 @@ pub(crate) fn read_number(field: &[u8]) -> Result<u32, Expected>
     }
 }
 
-pub(crate) fn read_word(field: &[u8], word: &[u8], expected: Expected) -> Result<(), Expected>
-    ensures { result ≡ keyword word.now expected field.now }
+// Reads the word that has to stand there.
+pub(crate) fn read_word(field: &[u8], expected: Expected) -> Result<(), Expected>
+    ensures { result ≡ keyword (expected_word expected) expected field.now }
 {
-    if is_word(field, word) {
+    if is_word(field, expected.word().as_bytes()) {
         Ok(())
     } else {
         Err(expected)
