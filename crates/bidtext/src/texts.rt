@@ -50,25 +50,13 @@ fn is_plain(name: &[u8]) -> bool
 }
 
 // Not by `{:02X}`, which would make and copy a text for each byte.
-fn hex_digit(value: u8) -> u8
-    requires { value < 16 }
-    ensures { result ≡ hex_digit value }
-{
-    if value < 10 {
-        b'0' + value
-    } else {
-        b'A' + (value - 10)
-    }
-}
-
 // A name as hexadecimal digits.
 fn hex_text(heap: Global, name: &[u8]) -> Result<String, AllocError>
     ensures { IfOk result (λ s. string_bytes s ≡ codes "hex:" ++ flat_map hex_pair name.now) }
 {
     let mut text = String::from_str(heap, "hex:")?;
     for byte in name {
-        text.push(char::from(hex_digit(byte / 16)))?;
-        text.push(char::from(hex_digit(byte % 16)))?;
+        write!(text, "{byte:02X}")?;
     }
     Ok(text)
 }
