@@ -13,7 +13,7 @@ mod words;
 pub use fault::{FileFault, FileQuestion};
 pub use kind::Kind;
 pub use layout::layout_holds;
-pub use reader::Reader;
+pub use reader::{MOST_BYTES, Reader};
 pub use records::{
     CurveChoice, Due, ExitRecord, OrderChoice, Placed, Record, SideChoice, TermsRecord, UnitRecord,
     YearsRecord,

@@ -11,7 +11,8 @@ use crate::kind::Kind;
 use crate::records::{Due, Placed, Record};
 use crate::words::count;
 
-const MOST_BYTES: usize = 65_532;
+// The length of the longest bid file.
+pub const MOST_BYTES: usize = 65_532;
 
 // The record at a place, after all its questions.
 fn read<'a>(file: &'a [u8], at: usize, due: Due) -> Result<Record<&'a [u8]>, FileQuestion>

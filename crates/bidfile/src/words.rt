@@ -2,7 +2,7 @@ ghost use Rattle.std.specs.Prelude.{◌≡◌, ◌+◌, ◌-◌, ◌<◌, ◌≤
 ghost use Rattle.bidfile.specs.Found.{operands, plain_words};
 ghost use Rattle.bidfile.specs.Words.{words, word_at, kind_at, value_at};
 
-// These take the file and a place: no record is known to stand there yet, so a struct would keep no fact that two share.
+// These take the file and a place, not a struct that keeps `at < words file`: each place would be made such a struct and read once.
 
 // How many words a file has.
 pub(crate) fn count(file: &[u8]) -> usize
