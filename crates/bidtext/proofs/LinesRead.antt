@@ -1,6 +1,6 @@
 -- The lines of records are read as these records. Assumes nothing.
-use Rattle.std.proofs.Common.{◌≡◌, ℕ, Bool, ◌+◌, ◌<◌, true, false, eqb, List, [], ◌∷◌, ◌++◌, take, Ok, Err, vec_items, codes, decimal, Result, Vec, sym, refl, ap, ◌∙◌, subst, append_assoc, arith}
-use Rattle.bidtext.specs.Letters.{unbroken, digit, hexadecimal, mark}
+use Rattle.std.proofs.Common.{◌≡◌, ℕ, Bool, ◌+◌, ◌<◌, true, false, not, ◌==◌, eqb, List, [], ◌∷◌, ◌++◌, take, Ok, Err, vec_items, codes, decimal, Result, Vec, sym, refl, ap, ◌∙◌, subst, append_assoc, arith}
+use Rattle.bidtext.specs.Letters.{digit, hexadecimal, mark}
 use Rattle.bidfile.specs.declared.records.CurveChoice.{CurveChoice}
 use Rattle.bidfile.specs.declared.records.CurveChoice.TheVariants.{Straight, Stepped}
 use Rattle.bidfile.specs.declared.records.OrderChoice.{OrderChoice}
@@ -26,6 +26,10 @@ use Rattle.std.proofs.lemmas.Bool.{cond-false, cond_both, and_parts, and_from}
 use Rattle.std.proofs.lemmas.Bool.Decides.{nat_tests}
 use Rattle.std.specs.declared.alloc.Global.{Global}
 use Rattle.std.specs.List.{flat_map, AllByRecursion, list_all, onto_first}
+
+-- the bytes of which lines are made: all but a newline
+abbrev unbroken : ℕ → Bool
+unbroken b = not (b == 10)
 
 -- bytes without a newline
 abbrev Even : List ℕ → Type 0

@@ -12,10 +12,6 @@ blank b = b == 32 || (b == 9 || b == 13)
 abbrev pub inner : ℕ → Bool
 inner b = not (blank b) && not (b == 35)
 
--- the bytes of which lines are made: all but a newline
-abbrev pub unbroken : ℕ → Bool
-unbroken b = not (b == 10)
-
 -- the padding of a name
 abbrev pub space : ℕ → Bool
 space b = b == 32

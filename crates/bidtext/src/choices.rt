@@ -11,7 +11,7 @@ use crate::expected::Expected;
 use crate::values::is_word;
 use bidfile::{CurveChoice, OrderChoice, SideChoice};
 
-// What is written by one of two words.
+// What is written by one of two words; a method and no `Display`, since the types are bidfile's.
 pub(crate) trait Choice: Copy {
     const ZEROTH: Self;
 

@@ -1,10 +1,9 @@
-ghost use Rattle.std.specs.Prelude.{◌≡◌, ◌≤◌, List, length};
+ghost use Rattle.std.specs.Prelude.{◌≡◌, List};
 ghost use Rattle.bidfile.specs.Items.{Item};
 ghost use Rattle.bidfile.specs.Layout.{Fits};
 ghost use Rattle.bidtext.specs.Files.{LineAdded, TextRead, TextOf};
 ghost use Rattle.bidtext.specs.Kept.{text_line};
-ghost use Rattle.bidtext.specs.Letters.{unbroken};
-ghost use Rattle.std.specs.List.{flat_map, prefix_len, AllByRecursion};
+ghost use Rattle.std.specs.List.{flat_map, AllByRecursion};
 
 use crate::faults::TextFault;
 use crate::layouts::push_record;

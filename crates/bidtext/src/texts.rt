@@ -1,6 +1,6 @@
-ghost use Rattle.std.specs.Prelude.{◌≡◌, ◌<◌, ◌≤◌, ◌++◌, length, IfOk, string_bytes, codes};
+ghost use Rattle.std.specs.Prelude.{◌≡◌, ◌≤◌, ◌++◌, length, IfOk, string_bytes, codes};
 ghost use Rattle.bidfile.specs.Items.{item_of, unit_item, terms, unit};
-ghost use Rattle.bidtext.specs.Texts.{class_word, hex_digit, hex_pair, marks, is_plain, name_word, line_text};
+ghost use Rattle.bidtext.specs.Texts.{class_word, hex_pair, marks, is_plain, name_word, line_text};
 ghost use Rattle.bidtext.specs.Letters.{space};
 ghost use Rattle.std.specs.List.{flat_map, list_all};
 
