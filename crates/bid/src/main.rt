@@ -5,6 +5,7 @@ mod failure;
 #[cfg(test)]
 mod tests;
 
+use bidfile::MOST_BYTES;
 use bidtext::{text_words, words_text};
 use failure::Failure;
 use std::env;
@@ -14,9 +15,9 @@ use std::process::ExitCode;
 const MOST_TEXT: usize = 4_194_304;
 
 // One byte more than may be read, so that what is too long is seen to be so and is read no further.
-const READ_TEXT: u64 = 4_194_305;
+const READ_TEXT: u64 = MOST_TEXT as u64 + 1;
 
-const READ_WORDS: u64 = 65_533;
+const READ_WORDS: u64 = MOST_BYTES as u64 + 1;
 
 fn read_input(rt: &HostRuntime, most: u64) -> Result<Vec<u8>, Failure> {
     let mut input = Vec::new(rt.alloc());
@@ -64,6 +65,7 @@ fn run(rt: &HostRuntime) -> Result<(), Failure> {
 }
 
 fn main(rt: HostRuntime) -> ExitCode {
+    // Not `?` out of main: that would print `Error: ` before the failure's own text.
     match run(&rt) {
         Ok(()) => ExitCode::SUCCESS,
         Err(failure) => {
