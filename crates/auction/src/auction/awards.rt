@@ -1,4 +1,4 @@
-ghost use Rattle.std.specs.Prelude.{◌≡◌, ◌<◌, ◌≤◌, true, ◌||◌, length, take};
+ghost use Rattle.std.specs.Prelude.{◌≡◌, true, ◌||◌, length, cond, nat_lt, Some, None};
 ghost use Rattle.auction.specs.Awards.{among, awarded_exits, award_of};
 ghost use Rattle.auction.specs.Reading.{numbered, settlement_of, settlement_read, award_read};
 ghost use Rattle.auction.specs.State.{ranked_exits};
@@ -76,16 +76,16 @@ impl<C: Curve, O: Order<Item = Exit>> Auction<C, O> {
         exits
     }
 
-    fn award_of(&self, settlement: Settlement, unit: usize) -> (u32, u32)
-        requires { unit < length (books self.now.book).units }
-        ensures { result ≡ award_of (state C.Curve.meaning O.Order.ahead self.now) settlement unit }
+    // The award of the unit with a number, if there is such a unit.
+    fn award_of(&self, settlement: Settlement, unit: usize) -> Option<(u32, u32)>
+        ensures { result ≡ cond (nat_lt unit (length (books self.now.book).units)) (Some (award_of (state C.Curve.meaning O.Order.ahead self.now) settlement unit)) None }
     {
+        let row = self.book.units().get(unit)?;
         let awarded = self.awarded(settlement);
-        let row = self.book.unit(unit);
-        if !is_awarded(&row, unit, awarded.as_slice()) {
-            return (0, 0);
+        if !is_awarded(row, unit, awarded.as_slice()) {
+            return Some((0, 0));
         }
-        (row.enrolled.capacity, row.years_at(settlement.price))
+        Some((row.enrolled.capacity, row.years_at(settlement.price)))
     }
 
     // The clearing price, the ground and the stopping place.
@@ -101,9 +101,7 @@ impl<C: Curve, O: Order<Item = Exit>> Auction<C, O> {
         ensures { numbered result ≡ award_read (state C.Curve.meaning O.Order.ahead self.now) clock.now.stamp unit }
     {
         self.ask_clock(clock)?;
-        if unit >= self.book.count() {
-            return Err(Refusal::Book(BookRefusal::NoUnit));
-        }
-        Ok(self.award_of(self.settled(), unit))
+        self.award_of(self.settled(), unit)
+            .ok_or(Refusal::Book(BookRefusal::NoUnit))
     }
 }
