@@ -3,13 +3,14 @@
 
 mod failure;
 
+use bidfile::MOST_BYTES;
 use failure::Failure;
 use rehearsal::{Storage, rehearse};
 use std::io::{BufWriter, Read, Write};
 use std::process::ExitCode;
 
 // One byte more than a bid file may have, so that a longer one is seen to be too long and is read no further.
-const MOST_READ: u64 = 65_533;
+const MOST_READ: u64 = MOST_BYTES as u64 + 1;
 
 fn read_file(rt: &HostRuntime) -> Result<Vec<u8>, Failure> {
     let mut file = Vec::new(rt.alloc());
