@@ -1,5 +1,5 @@
 -- What the calls leave of the rule that exit prices lie above the floor. Assumes nothing.
-use Rattle.std.proofs.Common.{◌≡◌, ℕ, zero, suc, ◌<◌, ◌≤◌, true, ltb, List, [], ◌∷◌, ◌++◌, get_or, Some, None, Option, sym, refl, subst, arith}
+use Rattle.std.proofs.Common.{◌≡◌, ℕ, zero, suc, ◌<◌, ◌≤◌, Bool, true, false, cond, ltb, List, [], ◌∷◌, ◌++◌, get_or, Some, None, Option, sym, refl, subst, arith}
 use Rattle.std.proofs.lemmas.Bool.{and_parts, and_from, lt-ltb, ltb-true}
 use Rattle.std.proofs.lemmas.Bool.Decides.{nat_tests}
 use Rattle.auction.specs.Sound.{price_above, exits_above, formers_above, book_above}
@@ -19,7 +19,7 @@ use Rattle.book.specs.declared.unit.Unit.{Unit as Row}
 use Rattle.book.proofs.ModelLaws.{with_standing}
 use Rattle.curve.specs.Meaning.{Meaning}
 use Rattle.book.proofs.Rules.{exit_allowed}
-use Rattle.curve.specs.Questions.{first_no}
+use Rattle.curve.specs.Questions.{Question, first_no}
 
 pub above_parts : (floor : ℕ) (b : Books) → book_above floor b ≡ true → (exits_above floor b.units ≡ true) × (formers_above floor b.entries ≡ true)
 unfolding book_above
@@ -132,3 +132,11 @@ open_allowed m top spread threshold h = (let k : top ≤ 10000 = grind (arith, n
 -- an exit that is let in is above the floor
 pub exit_price_above : (s : State) (t : Terms) (b : Books) (i price : ℕ) → t ≡ terms_of s → None ≡ first_no (exit_questions t b i price) → floor_of s < price
 exit_price_above s t b i price e h = subst (λ (u : Terms). u.floor < price) e (exit_allowed t b i price (sym h)).above
+
+-- a first question answered "no" is the first "no" of any list that it begins
+pub no_first : (q : Question) (qs : List Question) (n : ℕ) → Some n ≡ first_no (q ∷ []) → Some n ≡ first_no (q ∷ qs)
+no_first q qs n = cases q.yes
+  where
+    cases : (b : Bool) → Some n ≡ cond b None (Some q.number) → Some n ≡ cond b (first_no qs) (Some q.number)
+    cases true h = absurd (let z : ◌≡◌ {A = ℕ} 0 1 = cc in omega arith)
+    cases false h = h

@@ -7,7 +7,7 @@ use Rattle.book.specs.Lawful.{lawful, out_if_priced}
 use Rattle.book.proofs.Rules.{lawful_keeps, lawful_at, unit_stands}
 
 -- a unit of a book is out exactly if it has an exit price
-unit_priced : (b : Books) (i : ℕ) (u : Row) → u ≡ unit_at b i → lawful b ≡ true → i < length b.units → out_if_priced u.standing ≡ true
+pub unit_priced : (b : Books) (i : ℕ) (u : Row) → u ≡ unit_at b i → lawful b ≡ true → i < length b.units → out_if_priced u.standing ≡ true
 unit_priced b i u is h lt =
     subst (λ (v : Row). out_if_priced v.standing ≡ true) (sym is) (unit_stands _ (lawful_at b.units i (lawful_keeps b h).units lt)).priced
 
@@ -17,7 +17,3 @@ row_read b us i d these lt = get_or_default us i d no_unit lt ∙ ap (λ (vs : L
 
 pub row_priced : (b : Books) (us : List Row) (i : ℕ) (d : Row) → lawful b ≡ true → us ≡ b.units → i < length us → out_if_priced (get_or us i d).standing ≡ true
 row_priced b us i d h these lt = unit_priced b i _ (row_read b us i d these lt) h (let same = ap length these in omega arith)
-
-pub found_priced : (b : Books) (us : List Row) (i : ℕ) (u : Row) → lawful b ≡ true → us ≡ b.units → i < length us → u ≡ get_or us i u → out_if_priced u.standing ≡ true
-found_priced b us i u h these lt is =
-    unit_priced b i u (is ∙ row_read b us i u these lt) h (let same = ap length these in omega arith)

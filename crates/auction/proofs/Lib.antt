@@ -15,5 +15,6 @@ pub mod Rounds
 pub mod Above
 pub mod Floors
 pub mod TurnByTurn
+pub mod LawfulStates
 pub mod Runs
 pub mod Awarding

@@ -14,7 +14,7 @@ use Rattle.auction.specs.State.{State, floor_of, in_of, priced, ranked_exits}
 use Rattle.auction.proofs.RoundExits.{exit_holds, exits_true}
 use Rattle.auction.proofs.Soundness.{Sound, clearable, ranked_so}
 use Rattle.book.specs.declared.unit.Unit.{Unit as Row}
-use Rattle.book.specs.Books.{no_unit, leaving, exits_up_to}
+use Rattle.book.specs.Books.{no_unit, years_at, leaving, exits_up_to}
 use Rattle.clearing.proofs.BuyersBest.{best}
 use Rattle.clearing.proofs.Outcomes.{outcome_holds}
 use Rattle.clearing.proofs.StoppingPlaces.{stops_near, awards_below}
@@ -124,6 +124,14 @@ module _ (s : State) (sound : Sound s) (order : OrderLaws (λ e. e.unit) s.ahead
     below = awards_below (floor_of s) (in_of s) ranked ok c (stops_near s.curve (words s.curve laws) (floor_of s) (in_of s) ranked ok c settles).0 settles.price_is
 
     -- what is awarded is something
+    pub award_some : (i : ℕ) → i < length us → is_awarded s c i ≡ true → 1000 ≤ (award_of s c i).0
+    award_some i lt awarded =
+        let u : Row = get_or us i no_unit in
+        let is : award_of s c i ≡ (u.enrolled.capacity, years_at c.price u) = cond-true (is_awarded s c i) _ _ awarded in
+        let size : (award_of s c i).0 ≡ u.enrolled.capacity = ap (λ (a : ℕ × ℕ). a.0) is in
+        let large : 1000 ≤ u.enrolled.capacity = All-get_or (λ v. 1000 ≤ v.enrolled.capacity) us i no_unit lt sound.large in
+        omega arith
+
     pub award_none : (i : ℕ) → is_awarded s c i ≡ false → award_of s c i ≡ (0, 0)
     award_none i unawarded = cond-false (is_awarded s c i) _ _ unawarded
 

@@ -4,7 +4,7 @@ use Rattle.std.specs.List.{AllByRecursion}
 use Rattle.std.specs.List.Sorted.{IsPermutation}
 use Rattle.std.proofs.ByRecursion.{All-from_get_or, All-weaker}
 use Rattle.std.proofs.lemmas.List.{map_push, get_or-set_same, get_or-set_other}
-use Rattle.std.proofs.lemmas.List.Sorted.{IsPermutation-refl, IsPermutation-trans, IsPermutation-cons, IsPermutation-to_front}
+use Rattle.std.proofs.lemmas.List.Sorted.{IsPermutation-refl, IsPermutation-trans, IsPermutation-cons, IsPermutation-to_front, length_permutation}
 use Rattle.std.proofs.lemmas.Bool.{cond_both, false≢true}
 use Rattle.auction.specs.declared.calls.Turn.{Turn}
 use Rattle.auction.specs.History.{last_for, is_none}
@@ -17,7 +17,7 @@ use Rattle.auction.proofs.RoundExits.{Above, AboveAt, exits_distinct, exits_leas
 use Rattle.auction.proofs.Rows.{new_unit_is}
 use Rattle.auction.proofs.Trails.{keeps, replayed, Replays}
 use Rattle.book.specs.declared.unit.Unit.{Unit as Row}
-use Rattle.book.proofs.ExitLaws.{exits_priced}
+use Rattle.book.proofs.ExitLaws.{exits_few, exits_priced}
 use Rattle.book.specs.Books.{no_unit, new_unit, stood, out_at, for_years, leaving, total_enrolled, exits_up_to}
 use Rattle.clearing.proofs.Premises.{clearable_ranked}
 use Rattle.clearing.specs.Premise.{Clearable, top_price}
@@ -66,6 +66,19 @@ sound_if_agrees start s l most g =
 pub ranked_so : (s : State) → OrderLaws (λ e. e.unit) s.ahead → RanksExits s.ahead (exits_up_to s.top 0 s.book.units) (ranked_exits s)
 ranked_so s laws =
     ranking_stands (λ e. e.unit) (price_ahead s.ahead) (price_laws s.ahead laws) (exits_up_to s.top 0 s.book.units) (exits_distinct s.top 0 s.book.units)
+
+pub ranked_few : (s : State) → OrderLaws (λ e. e.unit) s.ahead → length (ranked_exits s) ≤ length s.book.units
+ranked_few s order =
+    let items : List Exit = exits_up_to s.top 0 s.book.units in
+    let same = length_permutation items (ranked_exits s) (ranked_so s order).same_items in
+    let few = exits_few s.top 0 s.book.units in
+    omega arith
+
+pub in_most : (s : State) → Sound s → in_of s ≤ ceiling
+in_most s sound =
+    let room = exits_room s.top 0 s.book.units in
+    let most = sound.most in
+    omega arith
 
 pub clearable : (s : State) → Sound s → OrderLaws (λ e. e.unit) s.ahead → Clearable (floor_of s) (in_of s) (ranked_exits s)
 clearable s sound laws =

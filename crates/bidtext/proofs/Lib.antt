@@ -1,3 +1,4 @@
+pub mod LetterCounts
 pub mod Pieces
 pub mod Numbers
 pub mod NameFields

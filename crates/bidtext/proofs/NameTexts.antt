@@ -1,9 +1,9 @@
 -- Names as they are written. Assumes nothing.
-use Rattle.std.proofs.Common.{◌≡◌, ℕ, zero, suc, ◌+◌, ◌-◌, ◌^◌, ◌<◌, ◌≤◌, Bool, true, false, not, ◌&&◌, List, [], ◌∷◌, ◌++◌, length, get_or, take, drop, IsAscii, Some, Option, option_map, sym, refl, ap, ◌∙◌, subst, append_assoc, append-nil, one-add, arith}
+use Rattle.std.proofs.Common.{◌≡◌, ℕ, zero, suc, ◌+◌, ◌/◌, ◌%◌, ◌<◌, ◌≤◌, Bool, true, false, not, ◌&&◌, List, [], ◌∷◌, ◌++◌, length, get_or, take, drop, IsAscii, sym, refl, ap, ◌∙◌, subst, append_assoc, append-nil, one-add, arith}
+use lib.Utf8.{encode}
 use Rattle.bidtext.specs.Letters.{mark}
-use Rattle.std.specs.Fmt.{AppendsText, digits_output, radix_digits, styled_digits_output, padded_integral, format_spec}
-use Rattle.bidtext.specs.Texts.{hex_pair, marks}
-use Rattle.std.proofs.lemmas.Fmt.{hex_byte}
+use Rattle.bidtext.specs.Texts.{hex_digit, hex_pair, marks}
+use Rattle.std.proofs.lemmas.Str.Ascii.{encode_ascii}
 use Rattle.std.proofs.lemmas.List.{at_drop_more, at_drop_all}
 use Rattle.std.proofs.lemmas.Bool.{cond_both, and_parts, and_from, true≢false, false≢true}
 use Rattle.std.proofs.lemmas.Bool.Decides.{nat_tests}
@@ -31,17 +31,21 @@ marks_small (b ∷ bs) all (suc i) = marks_small bs (and_parts (mark b) (list_al
 pub first_small : (name : List ℕ) (n : ℕ) → n ≡ marks name → IsAscii (take n name)
 first_small name n e = subst (λ (k : ℕ). IsAscii (take k name)) (sym e) (marks_small (take (marks name) name) (every_first mark name))
 
--- a byte that is written by `{:02X}`
-pub byte_written : (d : _) (s : _) (n : ℕ) (old new : List ℕ) → n < 256
-    → digits_output d ≡ Some (radix_digits 16 true n)
-    → s ≡ format_spec 32 0 4 2 (2 ^ 64 - 1)
-    → AppendsText old new (styled_digits_output d s)
-    → new ≡ old ++ hex_pair n
-byte_written d s n old new small is-d is-s added =
-    let spec = format_spec 32 0 4 2 (2 ^ 64 - 1) in
-    let a = subst (λ t. AppendsText old new (styled_digits_output d t)) is-s added in
-    let b = subst (λ (o : Option (List ℕ)). AppendsText old new (option_map (padded_integral spec false []) o)) is-d a in
-    b ∙ ap (λ (t : List ℕ). old ++ t) (hex_byte true n small)
+pub hex_digit_small : (d : ℕ) → d < 16 → hex_digit d < 128
+hex_digit_small d h = grind (arith, nat_tests)
+
+-- the two digits of a byte, pushed one after the other
+pub pair_pushed : (old text new : List ℕ) (byte a b : ℕ) → byte < 256 → a ≡ hex_digit (byte / 16) → b ≡ hex_digit (byte % 16)
+    → text ≡ old ++ encode a → new ≡ text ++ encode b → new ≡ old ++ hex_pair byte
+pair_pushed old text new byte a b small is-a is_b first second =
+    let small-a : a < 128 = omega (arith, is-a, hex_digit_small (byte / 16) (omega arith)) in
+    let small_b : b < 128 = omega (arith, is_b, hex_digit_small (byte % 16) (omega arith)) in
+    second
+    ∙ ap (λ (t : List ℕ). t ++ encode b) (first ∙ ap (λ (t : List ℕ). old ++ t) (encode_ascii a small-a))
+    ∙ ap (λ (t : List ℕ). (old ++ a ∷ []) ++ t) (encode_ascii b small_b)
+    ∙ append_assoc old (a ∷ []) (b ∷ [])
+    ∙ ap (λ (x : ℕ). old ++ (x ∷ (b ∷ []))) is-a
+    ∙ ap (λ (x : ℕ). old ++ (hex_digit (byte / 16) ∷ (x ∷ []))) is_b
 
 -- one byte more is written as two digits
 pub hexed_more : (name whole old new : List ℕ) (i : ℕ) → i < length name

@@ -1,5 +1,5 @@
 -- Numbers that are read digit by digit, up to a limit. Assumes nothing.
-use Rattle.std.proofs.Common.{◌≡◌, ℕ, ◌+◌, ◌-◌, ◌*◌, ◌≤◌, List, [], ◌∷◌, min, arith}
+use Rattle.std.proofs.Common.{◌≡◌, ℕ, ◌+◌, ◌-◌, ◌*◌, ◌≤◌, List, [], ◌∷◌, min, sym, ◌∙◌, arith}
 use Rattle.std.specs.List.{fold}
 use Rattle.bidtext.specs.Values.{value_after}
 
@@ -14,3 +14,8 @@ step m n b e = omega arith
 pub folded : (m n : ℕ) (bs : List ℕ) → m ≤ 268435456 → min m 268435456 ≡ min n 268435456 → fold more m bs ≡ min (value_after n bs) 268435456
 folded m n [] le e = omega arith
 folded m n (b ∷ bs) le e = folded (more m b) (n * 10 + (b - 48)) bs (omega arith) (step m n b e)
+
+-- two numbers that are one up to the limit stay so with the same digits behind them
+pub agree : (m n : ℕ) (bs : List ℕ) → min m 268435456 ≡ min n 268435456 → min (value_after m bs) 268435456 ≡ min (value_after n bs) 268435456
+agree m n bs e =
+    sym (folded (min m 268435456) m bs (omega arith) (omega arith)) ∙ folded (min m 268435456) n bs (omega arith) (omega arith)

@@ -1,19 +1,26 @@
 -- Laws of the model of a book: what each operation leaves, and that an entry stepped back is undone. Assumes nothing.
-use Rattle.std.proofs.Common.{◌≡◌, ℕ, zero, suc, ◌+◌, ◌<◌, ◌≤◌, Bool, true, false, cond, leb, ◌||◌, List, [], ◌∷◌, ◌++◌, length, get_or, set, Some, None, sum_by, Option, refl, ap, arith}
-use Rattle.std.specs.List.{list_any}
+use Rattle.std.proofs.Common.{◌≡◌, ℕ, zero, suc, ◌+◌, ◌<◌, ◌≤◌, Bool, true, false, cond, leb, List, [], ◌∷◌, ◌++◌, length, get_or, set, Some, None, sum_by, Option, refl, ap, arith}
 use Rattle.std.specs.Option.{option_to_list}
 use Rattle.std.proofs.lemmas.List.Sums.{sum_by-cons}
+use Rattle.book.specs.declared.class.Class.TheVariants.{Existing}
+use Rattle.book.specs.declared.class.Side.TheVariants.{Taker}
 use Rattle.book.specs.declared.entry.Entry.{Entry}
 use Rattle.book.specs.declared.unit.Standing.{Standing}
 use Rattle.book.specs.declared.unit.Unit.{Unit as Row}
-use Rattle.book.specs.Asked.{named}
 use Rattle.book.specs.Books.{Books, no_unit, unit_at, stood, out_at, for_years, with_exit, with_years, undone, stepped_back, in_kw, capacity_inside, total_enrolled, leaving, exits_up_to}
 use Rattle.book.specs.Exits.{exit_up_to, out_kw, capacity_out}
-use Rattle.book.specs.Names.{same_name}
 
 -- the units when the unit i stands otherwise
 abbrev pub with_standing : List Row → ℕ → Standing → List Row
 with_standing us i s = set us i (stood (get_or us i no_unit) s)
+
+-- what reading past the end would give, which the code never does
+abbrev pub unread : Row
+unread =
+    record {
+      enrolled = record { capacity = 0; class = Existing; side = Taker; years = 0; random = 0; name = [] };
+      standing = record { years = 0; inside = false; exit = None };
+    }
 
 -- step back
 
@@ -101,10 +108,6 @@ capacity_after_years b i years lt =
     let change = capacity_changes b.units i (for_years (unit_at b i).standing years) lt in omega arith
 
 -- names
-
-pub named_is : (us : List Row) (name : List ℕ) → named us name ≡ list_any (λ (u : Row). same_name u.enrolled.name name) us
-named_is [] name = refl
-named_is (u ∷ us) name = ap (λ (b : Bool). same_name u.enrolled.name name || b) (named_is us name)
 
 -- exits
 

@@ -13,7 +13,8 @@ use Rattle.book.specs.declared.unit.Enrolment.{Enrolment}
 use Rattle.book.specs.declared.unit.Standing.{Standing}
 use Rattle.book.specs.declared.unit.Unit.{Unit as Row}
 use Rattle.book.specs.Asked.{named, is_a_maker, years_known, enrol_questions, exit_questions, years_questions}
-use Rattle.book.specs.Books.{Books, no_unit, unit_at, stood, out_at, for_years, class_of, most_years, enrolled_as, new_unit, with_unit, with_entry, with_exit, undone, stepped_back, capacity_inside, total_enrolled}
+use Rattle.book.specs.declared.entry.EntryKind.TheVariants.{Exit, Years}
+use Rattle.book.specs.Books.{Books, no_books, no_unit, unit_at, stood, out_at, for_years, class_of, most_years, enrolled_as, new_unit, with_unit, with_entry, with_exit, with_years, undone, stepped_back, closed_book, capacity_inside, total_enrolled}
 use Rattle.book.specs.Lawful.{out_if_priced, lawful_standing, lawful_unit, lawful_units, distinct_names, stood_lawfully, lawful_entry, lawful_entries, lawful, can_leave}
 use Rattle.book.specs.Names.{same_name, well_formed}
 use Rattle.book.proofs.ModelLaws.{with_standing, enrolled_stays, total_stays, total_one_more, capacity_after_exit}
@@ -443,3 +444,27 @@ capacity_less b i price h allowed =
     let can = leave_allowed b i allowed in
     let s = unit_stands (unit_at b i) (lawful_at b.units i (lawful_keeps b h).units can.unit) in
     capacity_after_exit b i price can.unit (in_has_no_price (unit_at b i).standing s.priced can.inside)
+
+-- the rule as each operation alone leaves it
+
+pub lawful_none : lawful no_books ≡ true
+unfolding lawful lawful_units distinct_names lawful_entries
+lawful_none = refl
+
+pub lawful_with_exit : (b : Books) (i price : ℕ) → lawful b ≡ true → can_leave b i ≡ true → lawful (with_exit b i price) ≡ true
+lawful_with_exit b i price h allowed =
+    lawful_with_entry b i _ Exit h (exit_stands b i price h allowed) (leave_allowed b i allowed).room
+
+pub lawful_with_years : (b : Books) (i years : ℕ) → lawful b ≡ true → first_no (years_questions b i years) ≡ None → lawful (with_years b i years) ≡ true
+lawful_with_years b i years h allowed =
+    lawful_with_entry b i _ Years h (years_stand b i years h allowed) (years_allowed b i years allowed).room
+
+no_entries : (us : List Row) → lawful_entries us [] ≡ true
+unfolding lawful_entries
+no_entries us = refl
+
+pub lawful_closed : (b : Books) → lawful b ≡ true → lawful (closed_book b) ≡ true
+lawful_closed b h =
+    let k = lawful_keeps b h in
+    keeps_lawful _
+    (record { few_units = k.few_units; few_entries = omega arith; total = k.total; units = k.units; names = k.names; entries = no_entries b.units })

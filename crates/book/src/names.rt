@@ -1,5 +1,5 @@
 ghost use Rattle.std.specs.Prelude.{◌≡◌};
-ghost use Rattle.book.specs.Names.{name_character, padded, well_formed};
+ghost use Rattle.book.specs.Names.{name_character, padded, well_formed, same_name};
 
 use ranking::Name;
 
@@ -23,4 +23,11 @@ pub(crate) fn is_well_formed(name: Name) -> bool
     ensures { result ≡ well_formed name }
 {
     is_name_character(name[0]) && is_padded(name)
+}
+
+// Whether two names are the same, byte by byte. They are compared as numbers, since as arrays they took twice as long.
+pub(crate) fn is_same_name(a: Name, b: Name) -> bool
+    ensures { result ≡ same_name a b }
+{
+    u64::from_be_bytes(a) == u64::from_be_bytes(b)
 }

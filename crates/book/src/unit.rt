@@ -4,6 +4,7 @@ ghost use Rattle.book.specs.Exits.{exit_up_to};
 ghost use Rattle.book.specs.Names.{same_name};
 
 use crate::class::{Class, Side};
+use crate::names::is_same_name;
 use crate::terms::Application;
 use ranking::{Exit, Name};
 
@@ -126,6 +127,6 @@ impl Unit {
     pub(crate) fn is_named(&self, name: Name) -> bool
         ensures { result ≡ same_name self.now.enrolled.name name }
     {
-        self.enrolled.name == name
+        is_same_name(self.enrolled.name, name)
     }
 }

@@ -1,5 +1,5 @@
 -- Adding up the sides of a curve one after the other gives its running area.
-use Rattle.std.proofs.Common.{◌≡◌, ℕ, ◌+◌, ◌-◌, ◌*◌, ◌<◌, ◌≤◌, true, List, [], ◌∷◌, sym, ap, ◌∙◌, subst, mul-le-mul_left, arith}
+use Rattle.std.proofs.Common.{◌≡◌, ℕ, ◌+◌, ◌-◌, ◌*◌, ◌<◌, ◌≤◌, true, List, [], ◌∷◌, sym, ap, ◌∙◌, subst, mul-le-mul_right, mul-le-mul_left, arith}
 use Rattle.curve.specs.declared.corner.Corner.{Corner}
 use Rattle.curve.specs.declared.area.Area.{Area}
 use Rattle.curve.specs.declared.side.Shape.{Shape}
@@ -8,6 +8,7 @@ use Rattle.curve.specs.Corners.{accepted}
 use Rattle.curve.specs.Measures.{Measured}
 use Rattle.curve.specs.Outline.{side, sides_from, origin, sides, width, height, widths, column, sum_to, Sound}
 use Rattle.curve.specs.AreaUnder.{column_here, column_later}
+use Rattle.curve.specs.Columns.{height_start}
 use Rattle.curve.specs.Falling.{Next, Walking, walking_start, walking_side, walking_sound, walking_next, side_ends, origin_zero}
 use Rattle.curve.specs.SumsTo.{sum_none, sum_grows, sum_most, sum_along}
 
@@ -78,6 +79,18 @@ module _ {all : List Side} {q p twice : ℕ} {s : Side} {ss : List Side} (m : Me
       here_is (sum_to (column all) x) twice (widths all) m.times (width s) (widths ss) (x - q) (s.start * width s + height s x) parts
       (up_to x lo hi) m.product e
 
+  pub here_small : (x parts : ℕ) → s.start ≤ 10000 → q ≤ x → x ≤ s.to → parts ≡ twice * width s + (x - q) * (s.start * width s + height s x)
+      → parts ≤ 20000 * x * width s
+  here_small x parts cheap lo hi e =
+      let h = height_start q p s x n (omega arith) hi in
+      let w = mul-le-mul_right (width s) cheap in
+      let high : s.start * width s + height s x ≤ 20000 * width s = omega arith in
+      let more = mul-le-mul_left (x - q) high in
+      let less = mul-le-mul_right (width s) m.small in
+      let apart : x ≡ q + (x - q) = omega arith in
+      let all_of = ap (λ (k : ℕ). 20000 * k * width s) apart in
+      omega arith
+
 pub measured_past : {all : List Side} {q twice : ℕ} → Measuring all q twice [] → (x : ℕ) → q ≤ x → twice * widths all ≡ sum_to (column all) x * 1
 measured_past {all} {q} m x le =
     let none : (k : ℕ) → q < k → column all k ≤ 0 = λ k past. let e = m.columns k past in omega arith in
@@ -109,6 +122,12 @@ module _ (k : Shape) (all : List Corner) (place twice : ℕ) (c e : Corner) (es 
 
   here : Measuring (sides k all) c.quantity twice (s ∷ sides_from k e es)
   here = subst (λ (t : Side). Measuring (sides k all) c.quantity twice (t ∷ sides_from k e es)) (sym is) w.measuring
+
+  pub walked_from : s.from ≤ place
+  walked_from = let n = next in let b = w.before in omega arith
+
+  pub walked_small : twice ≤ 20000 * s.from
+  walked_small = let n = next in let m = w.measuring.small in omega arith
 
   pub walked_next : (more : ℕ) → more ≡ width s * (s.start + s.end) → s.to < place → Walked k all place (twice + more) e es
   walked_next more is-more past =

@@ -1,7 +1,7 @@
 -- How far a price reaches along sides that fall.
 use Rattle.std.specs.Prelude.{◌≡◌, ℕ, ◌-◌, ◌*◌, ◌<◌, ◌≤◌, true, List, [], ◌∷◌, nat_le}
-use Rattle.std.proofs.Common.{ap, arith}
-use Rattle.std.proofs.lemmas.Bool.{cond_both}
+use Rattle.std.proofs.Common.{ap, sym, subst, ◌∙◌, arith}
+use Rattle.std.proofs.lemmas.Bool.{cond_both, cond-true, cond-false, le-leb, lt-leb}
 use Rattle.std.proofs.lemmas.Bool.Decides.{nat_tests}
 use Rattle.std.specs.Int.{div_ceil}
 use Rattle.curve.specs.declared.corner.Corner.{Corner}
@@ -9,8 +9,8 @@ use Rattle.curve.specs.declared.side.Shape.{Shape}
 use Rattle.curve.specs.declared.side.Side.{Side}
 use Rattle.curve.specs.Corners.{accepted}
 use Rattle.curve.specs.Meaning.{ceiling}
-use Rattle.curve.specs.Outline.{sides_from, origin, sides, width, crossing, reach}
-use Rattle.curve.specs.Falling.{Next, Falling, Walking, walking_start, origin_zero}
+use Rattle.curve.specs.Outline.{side, sides_from, origin, sides, width, crossing, reach, Sound}
+use Rattle.curve.specs.Falling.{Next, Falling, Walking, walking_start, walking_next, walking_sound, side_ends, origin_zero}
 use Rattle.curve.specs.SideNumbers.{crosses_inside, up_falls}
 
 pub crossing_least : (s : Side) (p : ℕ) → s.from ≤ crossing s p
@@ -64,3 +64,22 @@ pub record Reaching (k : Shape) (p : ℕ) (all : List Corner) (c : Corner) (cs :
 pub reaching_start : (k : Shape) (p : ℕ) (all : List Corner) → accepted k all ≡ true → Reaching k p all (origin all) all
 reaching_start k p all passed =
     record { walking = walking_start k all passed; same = ap (λ (q : ℕ). reach q (sides k all) p) (origin_zero all) }
+
+module _ (k : Shape) (p : ℕ) (all : List Corner) (c e : Corner) (es : List Corner) (r : Reaching k p all c (e ∷ es)) (s : Side) (is : s ≡ side k c e) where
+  pub reaching_sound : Sound s
+  reaching_sound = subst Sound (sym is) (walking_sound r.walking)
+
+  pub reaching_next : p ≤ s.end → Reaching k p all e es
+  reaching_next le =
+      let t : Side = side k c e in
+      let hi : p ≤ t.end = subst (λ (x : Side). p ≤ x.end) is le in
+      let on = cond-true (nat_le p t.end) (reach t.to (sides_from k e es) p) (crossing t p) (le-leb p t.end hi) in
+      let ends = ap (λ (q : ℕ). reach q (sides_from k e es) p) (side_ends k c e).0 in
+      record { walking = walking_next r.walking; same = sym ends ∙ (sym on ∙ r.same) }
+
+  pub reaching_stop : s.end < p → crossing s p ≡ reach 0 (sides k all) p
+  reaching_stop lt =
+      let t : Side = side k c e in
+      let lo : t.end < p = subst (λ (x : Side). x.end < p) is lt in
+      let off = cond-false (nat_le p t.end) (reach t.to (sides_from k e es) p) (crossing t p) (lt-leb p t.end lo) in
+      ap (λ (x : Side). crossing x p) is ∙ (sym off ∙ r.same)

@@ -8,14 +8,14 @@ pub struct Area {
     pub width: u32,
     ghost some: { 0 < width },
     ghost narrow: { width ≤ ceiling },
-    ghost small: { parts ≤ 2 ^ 71 },
+    ghost small: { parts ≤ 800000000000000000000 },
 }
 
 impl Area {
     // The parts, over twice the product of both widths.
     fn over_both(self, other: Area) -> i128
         ensures value { result ≡ pos (self.parts * other.width) }
-        ensures small { self.parts * other.width ≤ 2 ^ 99 }
+        ensures small { self.parts * other.width ≤ 2 ^ 98 }
     {
         // `as` is proved to lose nothing; `i128::try_from` would answer an error that cannot come
         (self.parts * u128::from(other.width)) as i128

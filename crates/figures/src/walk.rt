@@ -22,8 +22,9 @@ fn walk<C: Curve>(rt: &HostRuntime, curve: &C, first_cap: u32, spread: u32) -> i
     if spread == 0 {
         return Ok(());
     }
-    let caps = (1..=first_cap).rev().step_by(spread as usize);
-    for (round, top) in (1u32..).zip(caps) {
+    for passed in 0..first_cap.div_ceil(spread) {
+        let top = first_cap.saturating_sub(passed.saturating_mul(spread));
+        let round = passed.saturating_add(1);
         let floor = floor_of(top, spread);
         let demand = curve.demand(floor);
         println!(rt; "round {round}: cap {top}, floor {floor}, demand {demand}")?;

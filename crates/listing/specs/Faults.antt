@@ -22,16 +22,15 @@ why_number (Open e) = auction_question e
 
 abbrev pub fault_layer : Fault → Layer
 fault_layer (File f) = layer.File
-fault_layer (Auction e) = why_layer e
+fault_layer (Auction f) = why_layer f.why
 
 abbrev pub fault_number : Fault → ℕ
 fault_number (File f) = file_question f.question
-fault_number (Auction e) = why_number e
+fault_number (Auction f) = why_number f.why
 
--- an auction that was not opened has the place 0: its curve and terms are not of one record
 abbrev pub fault_place : Fault → ℕ
 fault_place (File f) = f.place
-fault_place (Auction e) = 0
+fault_place (Auction f) = f.place
 
 -- the line of a fault
 abbrev pub fault_line : Fault → Line

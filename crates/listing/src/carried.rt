@@ -5,7 +5,7 @@ ghost use Rattle.listing.specs.declared.fault.Fault.TheVariants.{File, Auction};
 ghost use Rattle.listing.specs.declared.fault.Unopenable.TheVariants.{Curve, Open};
 ghost use Rattle.listing.specs.Faults.{why_layer, why_number, fault_layer, fault_number, fault_place, fault_line};
 
-use crate::fault::{Fault, Layer, Unopenable};
+use crate::fault::{AuctionFault, Fault, Layer, Unopenable};
 use crate::line::Line;
 use auction::Refusal;
 use bidfile::FileFault;
@@ -30,17 +30,17 @@ impl Fault {
     {
         match self {
             Fault::File(_) => Layer::File,
-            Fault::Auction(why) => why.layer(),
+            Fault::Auction(fault) => fault.why.layer(),
         }
     }
 
-    // The word of the file that it is printed with: 0 if no auction was opened, since its curve and terms are not of one record.
+    // The word of the file that it is printed with.
     pub fn place(self) -> usize
         ensures { result ≡ fault_place self }
     {
         match self {
             Fault::File(fault) => fault.place,
-            Fault::Auction(_) => 0,
+            Fault::Auction(fault) => fault.place,
         }
     }
 }
@@ -64,7 +64,7 @@ impl From<Fault> for u32 {
     fn from(fault: Fault) -> u32 {
         match fault {
             Fault::File(fault) => u32::from(fault),
-            Fault::Auction(why) => u32::from(why),
+            Fault::Auction(fault) => u32::from(fault.why),
         }
     }
 }
@@ -89,11 +89,44 @@ impl From<FileFault> for Fault {
     }
 }
 
+impl From<AuctionFault> for Fault {
+    ghost from_gives = { λ fault r. r ≡ Auction fault };
+
+    fn from(fault: AuctionFault) -> Fault {
+        Fault::Auction(fault)
+    }
+}
+
+// It is printed with word 0, wherever its question comes.
+impl From<Unopenable> for AuctionFault {
+    ghost from_gives = { λ why r. r ≡ record { why = why; place = 0 } };
+
+    fn from(why: Unopenable) -> AuctionFault {
+        AuctionFault { why, place: 0 }
+    }
+}
+
 impl From<Unopenable> for Fault {
-    ghost from_gives = { λ why r. r ≡ Auction why };
+    ghost from_gives = { λ why r. r ≡ Auction (record { why = why; place = 0 }) };
 
     fn from(why: Unopenable) -> Fault {
-        Fault::Auction(why)
+        Fault::Auction(AuctionFault::from(why))
+    }
+}
+
+impl From<CurveRefusal> for AuctionFault {
+    ghost from_gives = { λ refusal r. r ≡ record { why = Curve refusal; place = 0 } };
+
+    fn from(refusal: CurveRefusal) -> AuctionFault {
+        AuctionFault::from(Unopenable::Curve(refusal))
+    }
+}
+
+impl From<Refusal> for AuctionFault {
+    ghost from_gives = { λ refusal r. r ≡ record { why = Open refusal; place = 0 } };
+
+    fn from(refusal: Refusal) -> AuctionFault {
+        AuctionFault::from(Unopenable::Open(refusal))
     }
 }
 

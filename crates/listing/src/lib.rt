@@ -7,7 +7,7 @@ mod line;
 mod results;
 mod text;
 
-pub use fault::{Fault, Layer, Unopenable};
+pub use fault::{AuctionFault, Fault, Layer, Unopenable};
 pub use line::Line;
 
 #[cfg(test)]
@@ -83,6 +83,21 @@ mod tests {
             (
                 Fault::from(Unopenable::from(Refusal::Threshold)),
                 "FAULT AUCTION 8 WORD 0",
+            ),
+            (
+                Fault::from(AuctionFault::from(CurveRefusal::CornerCount)),
+                "FAULT CURVE 1 WORD 0",
+            ),
+            (
+                Fault::from(AuctionFault::from(Refusal::Threshold)),
+                "FAULT AUCTION 8 WORD 0",
+            ),
+            (
+                Fault::from(AuctionFault {
+                    why: Unopenable::from(Refusal::Threshold),
+                    place: 7,
+                }),
+                "FAULT AUCTION 8 WORD 7",
             ),
         ];
         for (fault, text) in table {

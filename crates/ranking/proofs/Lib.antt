@@ -1,3 +1,4 @@
 pub mod Prices
 pub mod Ranks
 mod Turned
+mod NameNumbers

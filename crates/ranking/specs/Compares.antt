@@ -1,10 +1,9 @@
 -- The laws of an order, carried by a comparison that comes before it.
-use Rattle.std.specs.Prelude.{◌≡◌, Some, ℕ, Bool, true, false, ltb, ◌⊎◌, List, [], ◌∷◌, nat_lt, refl}
+use Rattle.std.specs.Prelude.{◌≡◌, ℕ, zero, suc, ◌<◌, Bool, true, false, ltb, ◌⊎◌, List, [], ◌∷◌, length, ◌≢◌, nat_lt, slice_index, refl}
 use Rattle.std.proofs.Common.{sym, inl, inr, arith}
+use Rattle.std.proofs.lemmas.List.{ext_get_or}
 use Rattle.std.proofs.lemmas.Bool.{false≢true}
 use Rattle.std.proofs.lemmas.Bool.Decides.{nat_tests}
-use Rattle.std.specs.Cmp.Lexicographic.{slice_partial_cmp}
-use Rattle.std.specs.Ordering.{is_lt, is_some_and, nat_cmp, partial_ordering_then}
 use Rattle.ranking.specs.declared.exits.Exit.{Exit}
 use Rattle.ranking.specs.Laws.{Laws}
 use Rattle.ranking.specs.Ahead.{lower_first, larger_first, name_first, rule_ahead, by_name, name_ahead, price_ahead, roll_ahead}
@@ -43,12 +42,24 @@ name_decided [] (y ∷ ys) s t h = inl refl
 name_decided (x ∷ xs) [] s t h = inr refl
 name_decided (x ∷ xs) (y ∷ ys) s t h = lower_decided x y _ _ (name_decided xs ys s t h)
 
--- the library's comparison of a name and then a unit number is the order by name
-pub compared_name : (xs ys : List ℕ) (m n : ℕ) → is_some_and is_lt (partial_ordering_then (slice_partial_cmp (λ x y. Some (nat_cmp x y)) xs ys) (Some (nat_cmp m n))) ≡ name_first xs ys (nat_lt m n)
-compared_name [] [] m n = grind (arith, nat_tests)
-compared_name [] (y ∷ ys) m n = refl
-compared_name (x ∷ xs) [] m n = refl
-compared_name (x ∷ xs) (y ∷ ys) m n = let rest = compared_name xs ys m n in grind (arith, nat_tests)
+-- two names that first differ at i are decided there
+pub name_differs : (xs ys : List ℕ) (i : ℕ) (ties : Bool) → length xs ≡ length ys → i < length xs → ((k : ℕ) → k < i → slice_index xs k ≡ slice_index ys k) → (slice_index xs i ≢ slice_index ys i) → name_first xs ys ties ≡ nat_lt (slice_index xs i) (slice_index ys i)
+name_differs [] ys i ties e lt same other = absurd (omega arith)
+name_differs (x ∷ xs) [] i ties e lt same other = absurd (omega arith)
+name_differs (x ∷ xs) (y ∷ ys) zero ties e lt same other = grind (arith, nat_tests)
+name_differs (x ∷ xs) (y ∷ ys) (suc i) ties e lt same other =
+    let first : x ≡ y = same 0 (omega arith) in
+    let rest : name_first xs ys ties ≡ nat_lt (slice_index xs i) (slice_index ys i)
+    = name_differs xs ys i ties (omega arith) (omega arith) (λ k below. same (suc k) (omega arith)) other in
+    grind (arith, nat_tests)
+
+itself : (xs : List ℕ) (ties : Bool) → name_first xs xs ties ≡ ties
+itself [] ties = refl
+itself (x ∷ xs) ties = let rest = itself xs ties in grind (arith, nat_tests)
+
+-- two names that differ nowhere leave it to the tie
+pub name_same : (xs ys : List ℕ) (ties : Bool) → length xs ≡ length ys → ((k : ℕ) → k < length xs → slice_index xs k ≡ slice_index ys k) → name_first xs ys ties ≡ ties
+name_same xs ys ties e same = let names : xs ≡ ys = ext_get_or 0 xs ys e same in rw (sym names) (itself xs ties)
 
 -- the laws
 

@@ -1,19 +1,19 @@
 -- Calls with the auction's own clock: they are not refused for it, and what they give is its own clock again.
-use Rattle.std.proofs.Common.{◌≡◌, ℕ, ◌+◌, Bool, true, false, cond, eqb, List, [], ◌∷◌, length, Some, None, Ok, Err, Option, Result, sym, refl, ap, ◌∙◌, subst, arith, eq-eqb, eqb-true}
+use Rattle.std.proofs.Common.{◌≡◌, ℕ, ◌+◌, ◌-◌, Bool, true, false, cond, eqb, List, [], ◌∷◌, length, Some, None, Ok, Err, Option, Result, sym, refl, ap, ◌∙◌, subst, arith, eq-eqb, eqb-true}
 use Rattle.std.proofs.lemmas.Bool.{and_parts, false≢true}
 use Rattle.std.specs.Result.{IsOk}
 use Rattle.auction.specs.Answers.{traded}
 use Rattle.auction.specs.declared.calls.Answer.{Answer}
-use Rattle.auction.specs.declared.calls.Answer.TheVariants.{Refused, Enrolled, Begun, Entered, ClosedShut, ClosedSettled, Opened}
+use Rattle.auction.specs.declared.calls.Answer.TheVariants.{Refused, Enrolled, Begun, Entered, SteppedBack, ClosedShut, ClosedSettled, Opened}
 use Rattle.auction.specs.declared.calls.Figures.{Figures}
 use Rattle.auction.specs.declared.clocks.Stage.{Stage}
 use Rattle.auction.specs.declared.clocks.Stage.TheVariants.{Enrolling, Open, Shut, Settled}
 use Rattle.auction.specs.declared.clocks.Stamp.{Stamp}
 use Rattle.auction.specs.declared.refusal.Refusal.{Refusal}
 use Rattle.auction.specs.State.{State, floor_of, terms_of, in_of, current, same_stage, stamp_of}
-use Rattle.auction.specs.Steps.{auction_question, carried_out, own_clock, with_book, moved_to, figures_of, enrolled, begun, exited, served, closed, went_on}
-use Rattle.book.specs.Asked.{enrol_questions, exit_questions, years_questions}
-use Rattle.book.specs.Books.{Books, new_unit, with_unit, with_exit, with_years, closed_book}
+use Rattle.auction.specs.Steps.{auction_question, carried_out, own_clock, with_book, moved_to, figures_of, enrolled, begun, exited, served, went_back, closed, went_on}
+use Rattle.book.specs.Asked.{enrol_questions, exit_questions, years_questions, back_questions}
+use Rattle.book.specs.Books.{Books, new_unit, with_unit, with_exit, with_years, stepped_back, closed_book}
 use Rattle.book.specs.declared.terms.Application.{Application}
 use Rattle.curve.specs.declared.given_back.GivenBack.{GivenBack}
 use Rattle.curve.specs.Questions.{Question, first_no}
@@ -179,3 +179,50 @@ pub close_accepted : {A K : Type 0} (done : A → Answer) (r : Result A (GivenBa
 close_accepted done (Ok a) s c t h e = refl
 close_accepted done (Err kept) s c t h e =
     absurd (never_refused_if (within s.curve (floor_of s) (in_of s)) s t (auction_question kept.why) (e ∙ closed_own s c h))
+
+-- a Close with the own clock is not refused
+pub close_never_refused : (s : State) (c : Stamp) (t : State) (n : ℕ) → current s Open c ≡ true → Gives (closed s c) t (Refused n) → ⊥
+close_never_refused s c t n h e =
+    never_refused_if (within s.curve (floor_of s) (in_of s)) s t n (e ∙ closed_own s c h)
+
+-- what a Begin and a Next with the own clock give is the auction's own clock, with the numbers of the round that it opens
+
+pub begun_facts : (s : State) (c : Stamp) (t : State) (k : Stamp) (n : RoundNumbers) → current s Enrolling c ≡ true → n ≡ numbers_of s → Gives (begun s c) t (Begun k) → Facts Open k (record { round = 1; top = n.top; spread = n.spread }) t
+begun_facts s c t k n h en e =
+    let made : State = moved_to s Open 1 s.top s.book in
+    let first : RoundNumbers → RoundNumbers = λ m. record { round = 1; top = m.top; spread = m.spread } in
+    let all : Gives (made, Begun (stamp_of made)) t (Begun k) = e ∙ begun_own s c h in
+    let ea : Begun k ≡ Begun (stamp_of made) = gives_answer t made _ _ all in
+    let ek : k ≡ stamp_of made = cc ea in
+    made_facts made t Open k (first n) refl (gives_state t made _ _ all) ek (ap first en)
+
+pub went_on_facts : (s : State) (c : Stamp) (t : State) (k : Stamp) (n : RoundNumbers) → current s Shut c ≡ true → n ≡ numbers_of s → Gives (went_on s c) t (Opened k) → Facts Open k (record { round = n.round + 1; top = n.top - n.spread; spread = n.spread }) t
+went_on_facts s c t k n h en e =
+    let made : State = moved_to s Open (s.round + 1) (floor_of s) s.book in
+    let after : RoundNumbers → RoundNumbers = λ m. record { round = m.round + 1; top = m.top - m.spread; spread = m.spread } in
+    let all : Gives (made, Opened (stamp_of made)) t (Opened k) = e ∙ went_on_own s c h in
+    let ea : Opened k ≡ Opened (stamp_of made) = gives_answer t made _ _ all in
+    let ek : k ≡ stamp_of made = cc ea in
+    made_facts made t Open k (after n) refl (gives_state t made _ _ all) ek (ap after en)
+
+-- whatever holds of an auction before a call and after it holds, whatever the call answers
+
+pub carried_keeps : (K : State → Type 0) (o : Option ℕ) (s t : State) (a : Answer) → K s → K t → K (outcome o s t a).0
+carried_keeps K None s t a ks kt = kt
+carried_keeps K (Some n) s t a ks kt = ks
+
+pub enrolled_keeps_any : (K : State → Type 0) (s : State) (c : Stamp) (a : Application) (p : State × Answer) → p ≡ enrolled s c a → K s → K (with_book s (with_unit s.book (new_unit a))) → K p.0
+enrolled_keeps_any K s c a p e ks kt =
+    subst (λ q. K q.0) (sym e) (carried_keeps K (first_no (own_clock s Enrolling c ∷ enrol_questions s.book a)) s (with_book s (with_unit s.book (new_unit a))) (Enrolled (length s.book.units)) ks kt)
+
+pub exited_keeps_any : (K : State → Type 0) (s : State) (c : Stamp) (i price : ℕ) (p : State × Answer) → p ≡ exited s c i price → K s → K (with_book s (with_exit s.book i price)) → K p.0
+exited_keeps_any K s c i price p e ks kt =
+    subst (λ q. K q.0) (sym e) (carried_keeps K (first_no (own_clock s Open c ∷ exit_questions (terms_of s) s.book i price)) s (with_book s (with_exit s.book i price)) Entered ks kt)
+
+pub served_keeps_any : (K : State → Type 0) (s : State) (c : Stamp) (i n : ℕ) (p : State × Answer) → p ≡ served s c i n → K s → K (with_book s (with_years s.book i n)) → K p.0
+served_keeps_any K s c i n p e ks kt =
+    subst (λ q. K q.0) (sym e) (carried_keeps K (first_no (own_clock s Open c ∷ years_questions s.book i n)) s (with_book s (with_years s.book i n)) Entered ks kt)
+
+pub went_back_keeps : (K : State → Type 0) (s : State) (c : Stamp) (p : State × Answer) → p ≡ went_back s c → K s → K (with_book s (stepped_back s.book)) → K p.0
+went_back_keeps K s c p e ks kt =
+    subst (λ q. K q.0) (sym e) (carried_keeps K (first_no (own_clock s Open c ∷ back_questions s.book)) s (with_book s (stepped_back s.book)) SteppedBack ks kt)

@@ -1,7 +1,8 @@
 -- The roll has at most one row for each unit, and a book at most 512 units; so 512 rows are enough.
-use Rattle.std.proofs.Common.{◌≡◌, ℕ, ◌+◌, ◌≤◌, Bool, true, false, cond, leb, List, [], ◌∷◌, ◌++◌, length, drop, Some, None, Ok, Err, fold, Option, Result, refl, ap, ◌∙◌, arith, length-append, le-leb, leb-true}
+use Rattle.std.proofs.Common.{◌≡◌, ℕ, ◌+◌, ◌≤◌, Bool, true, false, cond, leb, List, [], ◌∷◌, ◌++◌, length, take, drop, Some, None, Ok, Err, fold, Option, Result, refl, ap, ◌∙◌, arith, length-append, le-leb, leb-true}
 use Rattle.std.specs.Option.{option_to_list}
 use Rattle.std.specs.Result.{IsOk}
+use Rattle.std.proofs.lemmas.List.{take-append-le, take_all}
 use Rattle.std.proofs.lemmas.Bool.{and_parts}
 use Rattle.auction.specs.declared.clocks.Stage.TheVariants.{Settled}
 use Rattle.auction.specs.declared.clocks.Stamp.{Stamp}
@@ -73,3 +74,28 @@ roll_accepted (Err why) s c rows after own e few =
     let counted : Err (auction_question why) ≡ Ok (length roll) = ap (λ p. p.0) all in
     let z : ◌≡◌ {A = ℕ} 0 1 = cc counted in
     absurd (omega arith)
+
+pub front_is : {A : Type 0} (xs ys : List A) → take (length xs) (xs ++ ys) ≡ xs
+front_is xs ys = take-append-le (length xs) xs ys (omega arith) ∙ take_all (length xs) xs (omega arith)
+
+-- what an answer of Roll to its own clock comes to
+pub roll_counted : (s : State) (c : Stamp) (rows after : List RollRow) (n : ℕ) → current s Settled c ≡ true → ◌≡◌ {A = Result ℕ ℕ × List RollRow} (Ok n, after) (roll_read s c rows) → length s.book.units ≤ length rows → (n ≤ length after) × (take n after ≡ roll_of s (settlement_of s))
+roll_counted s c rows after n own e few =
+    let roll : List RollRow = roll_of s (settlement_of s) in
+    let short = roll_short s (settlement_of s) in
+    let all = e ∙ roll_own s c rows own (omega arith) in
+    let counted : Ok n ≡ Ok (length roll) = ap (λ p. p.0) all in
+    let is : n ≡ length roll = cc counted in
+    let written : after ≡ roll ++ drop (length roll) rows = ap (λ p. p.1) all in
+    let long = length-append roll (drop (length roll) rows) in
+    let after-long : length after ≡ length (roll ++ drop (length roll) rows) = ap length written in
+    (omega arith, ap (λ k. take k after) is ∙ ap (λ l. take (length roll) l) written ∙ front_is roll (drop (length roll) rows))
+
+pub roll_unrefused : (s : State) (c : Stamp) (rows after : List RollRow) (n : ℕ) → current s Settled c ≡ true → ◌≡◌ {A = Result ℕ ℕ × List RollRow} (Err n, after) (roll_read s c rows) → length s.book.units ≤ length rows → ⊥
+roll_unrefused s c rows after n own e few =
+    let roll : List RollRow = roll_of s (settlement_of s) in
+    let short = roll_short s (settlement_of s) in
+    let all = e ∙ roll_own s c rows own (omega arith) in
+    let counted : Err n ≡ Ok (length roll) = ap (λ p. p.0) all in
+    let z : ◌≡◌ {A = ℕ} 0 1 = cc counted in
+    omega arith

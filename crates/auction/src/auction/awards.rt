@@ -1,4 +1,4 @@
-ghost use Rattle.std.specs.Prelude.{◌≡◌, true, ◌||◌, length, cond, nat_lt, Some, None};
+ghost use Rattle.std.specs.Prelude.{◌≡◌, ◌<◌, [], true, ◌||◌, length};
 ghost use Rattle.auction.specs.Awards.{among, awarded_exits, award_of};
 ghost use Rattle.auction.specs.Reading.{numbered, settlement_of, settlement_read, award_read};
 ghost use Rattle.auction.specs.State.{ranked_exits};
@@ -36,25 +36,26 @@ pub(super) fn is_awarded(row: &Unit, unit: usize, awarded: &[Exit]) -> bool
 }
 
 impl<C: Curve, O: Order<Item = Exit>> Auction<C, O> {
-    // The exits of the round, in their ranking. A loop, since `collect` into an ArrayVec would answer an error that cannot come.
-    fn exits(&self) -> ArrayVec<Exit, MOST_UNITS>
-        ensures { result.items ≡ ranked_exits (state C.Curve.meaning O.Order.ahead self.now) }
+    // Puts the exits of the round, in their ranking, into an empty lent vector: one that is handed out would be copied. A loop,
+    // since `extend` would answer an error that cannot come.
+    fn put_exits(&self, exits: &mut ArrayVec<Exit, MOST_UNITS>)
+        requires { exits.old.items ≡ [] }
+        ensures { exits.new.items ≡ ranked_exits (state C.Curve.meaning O.Order.ahead self.now) }
     {
-        let mut exits = ArrayVec::new();
         for (i, unit) in self.book.units().iter().enumerate() {
             if let Some(exit) = unit.exit_up_to(i, self.top) {
                 exits.push(exit);
             }
         }
-        rank_items(&self.order, &mut exits);
-        exits
+        rank_items(&self.order, exits);
     }
 
     // How the round settles if it is closed as things stand; at the floor if it does not clear, which is so of no settled auction.
     pub(super) fn settled(&self) -> Settlement
         ensures { result ≡ settlement_of (state C.Curve.meaning O.Order.ahead self.now) }
     {
-        let exits = self.exits();
+        let mut exits = ArrayVec::new();
+        self.put_exits(&mut exits);
         let round = Round {
             floor: self.floor(),
             capacity_in: self.book.capacity_in(),
@@ -67,25 +68,27 @@ impl<C: Curve, O: Order<Item = Exit>> Auction<C, O> {
         })
     }
 
-    // The exits that are awarded, in their ranking.
-    pub(super) fn awarded(&self, settlement: Settlement) -> ArrayVec<Exit, MOST_UNITS>
-        ensures { result.items ≡ awarded_exits (state C.Curve.meaning O.Order.ahead self.now) settlement }
+    // Puts the exits that are awarded, in their ranking, into an empty lent vector.
+    pub(super) fn put_awarded(&self, settlement: Settlement, exits: &mut ArrayVec<Exit, MOST_UNITS>)
+        requires { exits.old.items ≡ [] }
+        ensures { exits.new.items ≡ awarded_exits (state C.Curve.meaning O.Order.ahead self.now) settlement }
     {
-        let mut exits = self.exits();
+        self.put_exits(exits);
         exits.truncate(settlement.stop);
-        exits
     }
 
-    // The award of the unit with a number, if there is such a unit.
-    fn award_of(&self, settlement: Settlement, unit: usize) -> Option<(u32, u32)>
-        ensures { result ≡ cond (nat_lt unit (length (books self.now.book).units)) (Some (award_of (state C.Curve.meaning O.Order.ahead self.now) settlement unit)) None }
+    // The kW and the years of a unit, both 0 if it is awarded nothing.
+    fn award_of(&self, settlement: Settlement, unit: usize) -> (u32, u32)
+        requires { unit < length (books self.now.book).units }
+        ensures { result ≡ award_of (state C.Curve.meaning O.Order.ahead self.now) settlement unit }
     {
-        let row = self.book.units().get(unit)?;
-        let awarded = self.awarded(settlement);
-        if !is_awarded(row, unit, awarded.as_slice()) {
-            return Some((0, 0));
+        let row = self.book.unit(unit);
+        let mut awarded = ArrayVec::new();
+        self.put_awarded(settlement, &mut awarded);
+        if !is_awarded(&row, unit, awarded.as_slice()) {
+            return (0, 0);
         }
-        Some((row.enrolled.capacity, row.years_at(settlement.price)))
+        (row.enrolled.capacity, row.years_at(settlement.price))
     }
 
     // The clearing price, the ground and the stopping place.
@@ -101,7 +104,10 @@ impl<C: Curve, O: Order<Item = Exit>> Auction<C, O> {
         ensures { numbered result ≡ award_read (state C.Curve.meaning O.Order.ahead self.now) clock.now.stamp unit }
     {
         self.ask_clock(clock)?;
-        self.award_of(self.settled(), unit)
-            .ok_or(Refusal::Book(BookRefusal::NoUnit))
+        // Asked before anything is settled, so that a refusal costs no pricing.
+        if unit >= self.book.count() {
+            return Err(Refusal::Book(BookRefusal::NoUnit));
+        }
+        Ok(self.award_of(self.settled(), unit))
     }
 }

@@ -1,4 +1,4 @@
-ghost use Rattle.std.specs.Prelude.{◌≡◌};
+ghost use Rattle.std.specs.Prelude.{◌≡◌, []};
 ghost use Rattle.auction.specs.Reading.{numbered, settlement_of};
 ghost use Rattle.auction.specs.Rolls.{roll_of, roll_read};
 ghost use Rattle.auction.specs.Views.{state};
@@ -14,14 +14,15 @@ use curve::Curve;
 use ranking::{Exit, Order, RollOrder, RollRow};
 
 impl<C: Curve, O: Order<Item = Exit>> Auction<C, O> {
-    // The rows of the awarded units, in the order of the roll. A loop, since `collect` into an ArrayVec would answer an error that
-    // cannot come.
-    fn roll_rows(&self) -> ArrayVec<RollRow, MOST_UNITS>
-        ensures { result.items ≡ roll_of (state C.Curve.meaning O.Order.ahead self.now) (settlement_of (state C.Curve.meaning O.Order.ahead self.now)) }
+    // Puts the rows of the awarded units, in the order of the roll, into an empty lent vector. A loop, since `extend` would answer an
+    // error that cannot come.
+    fn put_rows(&self, rows: &mut ArrayVec<RollRow, MOST_UNITS>)
+        requires { rows.old.items ≡ [] }
+        ensures { rows.new.items ≡ roll_of (state C.Curve.meaning O.Order.ahead self.now) (settlement_of (state C.Curve.meaning O.Order.ahead self.now)) }
     {
         let settlement = self.settled();
-        let awarded = self.awarded(settlement);
-        let mut rows = ArrayVec::new();
+        let mut awarded = ArrayVec::new();
+        self.put_awarded(settlement, &mut awarded);
         for (unit, row) in self.book.units().iter().enumerate() {
             if is_awarded(row, unit, awarded.as_slice()) {
                 rows.push(RollRow {
@@ -32,8 +33,7 @@ impl<C: Curve, O: Order<Item = Exit>> Auction<C, O> {
                 });
             }
         }
-        rank_items(&RollOrder::default(), &mut rows);
-        rows
+        rank_items(&RollOrder::default(), rows);
     }
 
     // Writes the rows of the awarded units over the front of the lent ones, in the order of the roll, and answers how many
@@ -42,7 +42,8 @@ impl<C: Curve, O: Order<Item = Exit>> Auction<C, O> {
         ensures { (numbered result, rows.new) ≡ roll_read (state C.Curve.meaning O.Order.ahead self.now) clock.now.stamp rows.old }
     {
         self.ask_clock(clock)?;
-        let awarded = self.roll_rows();
+        let mut awarded = ArrayVec::new();
+        self.put_rows(&mut awarded);
         if awarded.len() > rows.len() {
             return Err(Refusal::Rows);
         }

@@ -1,14 +1,17 @@
-use Rattle.std.proofs.Common.{ap, ◌∙◌, refl, rules}
-use Rattle.bidtext.specs.Fields.{uncommented}
-use Rattle.bidtext.specs.Letters.{blank}
-use Rattle.bidtext.proofs.Pieces.{some, field_found}
+use Rattle.std.proofs.Common.{◌≡◌, ℕ, ◌+◌, List, [], ap, ◌∙◌, arith}
+use Rattle.bidtext.specs.Fields.{fields, field_at, after}
+use Rattle.bidtext.proofs.Pieces.{passed_more}
 use Rattle.bidtext.proofs.fields.field.Goals as goal
-use Rattle.std.proofs.lemmas.Iterator.Consumers.{YieldsList-from_filter, nth_from_yields_List}
-use Rattle.std.proofs.lemmas.Iterator.Splits.{YieldsList-from_slice_split}
+use Rattle.std.proofs.lemmas.List.{get_or-drop}
+
+pub loop-passed-preserved : goal.loop-passed-preserved
+loop-passed-preserved c =
+    c.rest_of-rest.ensures ∙ ap after c.loop-passed.invariant ∙ passed_more (fields c.args.line.now) c.loop-passed._passed
 
 pub returns : goal.returns
 returns c =
-    let pieces = YieldsList-from_slice_split _ blank (uncommented c.args.line.now) (cc) (cc) (cc) (λ x b q k. search rules) in
-    let kept = YieldsList-from_filter _ some pieces (cc) (λ x b q k. search rules) in
-    let nth = nth_from_yields_List c.nth.result _ c.args.place c.nth.ensures.ran kept in
-    ap (λ x. x.now) c.unwrap_or.ensures ∙ field_found c.args.line.now c.args.place c.nth.result _ refl nth
+    let all : c.loop-passed._passed + 0 ≡ c.args.place = omega arith in
+    c.first_field.ensures
+    ∙ ap (λ (fs : List (List ℕ)). field_at fs 0) c.loop-passed.invariant
+    ∙ get_or-drop c.loop-passed._passed (fields c.args.line.now) 0 []
+    ∙ ap (field_at (fields c.args.line.now)) all

@@ -1,12 +1,13 @@
-use Rattle.std.proofs.Common.{get_or, string_bytes, arith}
-use Rattle.bidtext.proofs.NameTexts.{byte_written, hexed_more, hexed_all}
+use Rattle.std.proofs.Common.{◌∙◌, arith}
+use Rattle.bidtext.proofs.NameTexts.{pair_pushed, hexed_more, hexed_all}
 use Rattle.bidtext.proofs.texts.hex_text.Goals as goal
 
 pub loop-byte-preserved : goal.loop-byte-preserved
 loop-byte-preserved c =
-    let byte = get_or c.args.name.now c.loop-byte.byte-index 0 in
     hexed_more c.args.name.now _ _ _ c.loop-byte.byte-index (omega arith)
-    (byte_written c.in_radix.result c.laid_out.result byte (string_bytes c.loop-byte.text) (string_bytes c.write.new.self) (omega (arith, c.type_inv.name c.loop-byte.byte-index)) c.in_radix.ensures c.laid_out.ensures c.in_ok-write.ensures.bytes)
+    (pair_pushed _ _ _ _ c.from.result c.from-in-loop-byte.result (omega (arith, c.type_inv.name c.loop-byte.byte-index))
+    (c.from.ensures ∙ c.hex_digit.ensures) (c.from-in-loop-byte.ensures ∙ c.hex_digit-in-loop-byte.ensures)
+    c.in_ok-push.ensures.bytes c.in_ok-push-2.ensures.bytes)
     c.loop-byte.invariant
 
 pub returns : goal.returns

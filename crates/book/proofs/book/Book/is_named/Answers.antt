@@ -1,15 +1,24 @@
-use Rattle.std.proofs.Common.{◌∙◌, sym, rules, tests}
-use Rattle.std.proofs.lemmas.Iterator.{YieldsList-from_slice}
-use Rattle.std.proofs.lemmas.Iterator.Search.{any_from_yields_List}
+use Rattle.std.proofs.Common.{List, arith}
+use Rattle.std.proofs.lemmas.List.{at_drop_more, at_drop_all}
+use Rattle.std.proofs.lemmas.Bool.Decides.{nat_tests}
 use Rattle.book.specs.declared.unit.Unit.{Unit as Row}
-use Rattle.book.specs.Names.{same_name}
-use Rattle.book.specs.Views.{books}
-use Rattle.book.proofs.ModelLaws.{named_is}
+use Rattle.book.specs.Asked.{named}
+use Rattle.book.proofs.ModelLaws.{unread}
 use Rattle.book.proofs.book.Book.is_named.Goals as goal
+
+pub returns-then-is_named : goal.returns-then-is_named
+returns-then-is_named c =
+    let e = at_drop_more (λ (us : List Row). named us c.args.name) c.units-unit-items.result.now c.loop-unit.unit-index unread (omega arith) in
+    let value = c.units-unit-items.ensures in
+    grind (arith, nat_tests)
+
+pub loop-unit-preserved : goal.loop-unit-preserved
+loop-unit-preserved c =
+    let e = at_drop_more (λ (us : List Row). named us c.args.name) c.units-unit-items.result.now c.loop-unit.unit-index unread (omega arith) in
+    grind (arith, nat_tests)
 
 pub returns : goal.returns
 returns c =
-    any_from_yields_List (λ (u : Row). same_name u.enrolled.name c.args.name) _ _ c.any.result c.any.ensures.ran
-    (YieldsList-from_slice (books c.args.self.now).units (cc))
-    (λ x b q k. search (rules, tests))
-    ∙ sym (named_is (books c.args.self.now).units c.args.name)
+    let e = at_drop_all (λ (us : List Row). named us c.args.name) c.units-unit-items.result.now c.loop-unit.unit-index (omega arith) in
+    let value = c.units-unit-items.ensures in
+    grind (arith, nat_tests)

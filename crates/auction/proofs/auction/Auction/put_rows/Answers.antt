@@ -7,8 +7,8 @@ use Rattle.book.proofs.Rules.{lawful_keeps}
 use Rattle.ranking.specs.declared.roll.RollRow.{RollRow}
 use Rattle.auction.proofs.Awarding.{row_read, row_priced}
 use Rattle.auction.proofs.Gathers.{row_put, row_passed, rows_ranked}
-use Rattle.auction.proofs.auction.Auction.roll_rows.Goals as goal
-use Rattle.auction.proofs.auction.Auction.roll_rows.Goals.{then-is_awarded, else-is_awarded}
+use Rattle.auction.proofs.auction.Auction.put_rows.Goals as goal
+use Rattle.auction.proofs.auction.Auction.put_rows.Goals.{then-is_awarded, else-is_awarded}
 
 pub is_awarded-requires : goal.is_awarded-requires
 is_awarded-requires g c =
@@ -23,7 +23,7 @@ push-requires g c =
 pub loop-unit-preserved : goal.loop-unit-preserved
 loop-unit-preserved g c =
     let s : State = state g.C.Curve.meaning g.O.Order.ahead c.args.self.now in
-    let exits = c.as_slice.ensures.value ∙ c.awarded-awarded.ensures in
+    let exits = c.as_slice.ensures.value ∙ c.put_awarded.ensures in
     let items = λ (v : ArrayVec RollRow). v.items in
     let same = ap length c.units-row-items.ensures in
     elim c.if-is_awarded.branch [

@@ -1,7 +1,7 @@
 use Rattle.std.proofs.Common.{◌≡◌, ◌≤◌, ◌++◌, length, drop}
 use Rattle.book.specs.Books.{exits_up_to}
 use Rattle.book.specs.Views.{books}
-use Rattle.auction.proofs.auction.Auction.exits.Given as goal
+use Rattle.auction.proofs.auction.Auction.put_exits.Given as goal
 
 -- behind the exits found so far, those of the units to come make up the exits of the round
 abbrev pub invariant-loop-i : goal.invariant-loop-i

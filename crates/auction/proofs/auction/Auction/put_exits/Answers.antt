@@ -3,7 +3,7 @@ use Rattle.auction.specs.Views.{state}
 use Rattle.book.specs.Views.{books}
 use Rattle.book.proofs.Rules.{lawful_keeps}
 use Rattle.auction.proofs.Gathers.{exits_ranked}
-use Rattle.auction.proofs.auction.Auction.exits.Goals as goal
+use Rattle.auction.proofs.auction.Auction.put_exits.Goals as goal
 
 pub push-requires : goal.push-requires
 push-requires g c =

@@ -2,7 +2,7 @@ use Rattle.std.proofs.Common.{◌≡◌, ◌≤◌, ◌++◌, length, drop}
 use Rattle.auction.specs.Rolls.{rows_of}
 use Rattle.auction.specs.Views.{state}
 use Rattle.book.specs.Views.{books}
-use Rattle.auction.proofs.auction.Auction.roll_rows.Given as goal
+use Rattle.auction.proofs.auction.Auction.put_rows.Given as goal
 
 -- behind the rows found so far, those of the units to come make up the rows of the roll
 abbrev pub invariant-loop-unit : goal.invariant-loop-unit

@@ -1,0 +1,10 @@
+use Rattle.std.proofs.Common.{ap, ◌∙◌}
+use Rattle.bidtext.specs.Fields.{fields}
+use Rattle.bidtext.proofs.Pieces.{parted}
+use Rattle.bidtext.proofs.fields.rest_of.Goals as goal
+use Rattle.std.proofs.lemmas.List.{take_rest}
+
+pub returns : goal.returns
+returns c =
+    ap fields (take_rest _ c.field_len.result)
+    ∙ (parted c.args.line.now _ c.blanks.result c.field_len.result c.blanks.ensures.count (take_rest c.args.line.now c.blanks.result) c.field_len.ensures.count).others
